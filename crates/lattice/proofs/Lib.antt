@@ -1,0 +1,3 @@
+mod Unions
+mod ContributorLaws
+mod CompartmentLaws

@@ -1,0 +1,4 @@
+pub mod Refusals
+pub mod Guards
+pub mod Pairs
+pub mod Plans
