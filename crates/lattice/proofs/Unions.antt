@@ -15,9 +15,17 @@ or-odd a b = omega (arith, or-step a b)
 pub or-assoc : (a b c : ℕ) → bitOr (bitOr a b) c ≡ bitOr a (bitOr b c)
 or-assoc =
     bin-ind (λ (n : ℕ). (b c : ℕ) → bitOr (bitOr n b) c ≡ bitOr n (bitOr b c))
-      (λ b c. ap (λ (x : ℕ). bitOr x c) (or-zero-l b) ∙ sym (or-zero-l (bitOr b c)))
-      (λ n ih b c. omega (arith, or-step (bitOr n b) c, or-step n (bitOr b c), ap (λ (x : ℕ). bitOr x (c / 2)) (or-half n b),
-        ap (bitOr (n / 2)) (or-half b c), ih (b / 2) (c / 2), or-odd n b, or-odd b c))
+    (λ b c. ap (λ (x : ℕ). bitOr x c) (or-zero-l b) ∙ sym (or-zero-l (bitOr b c)))
+    (λ n ih b c. omega (
+      arith,
+      or-step (bitOr n b) c,
+      or-step n (bitOr b c),
+      ap (λ (x : ℕ). bitOr x (c / 2)) (or-half n b),
+      ap (bitOr (n / 2)) (or-half b c),
+      ih (b / 2) (c / 2),
+      or-odd n b,
+      or-odd b c,
+    ))
 
 -- a set lies in its union with another, on either side
 pub or-absorbs : (a b : ℕ) → bitOr a (bitOr a b) ≡ bitOr a b

@@ -35,23 +35,23 @@ laid-within from limit (p ∷ ps) h zero l = front from limit p ps h .ends
 laid-within from limit (p ∷ ps) h (suc i) l = laid-within (end p) limit ps (front from limit p ps h .rest) i (omega arith)
 
 pub laid-apart : (from limit : ℕ) (ps : List Pair) → laid from limit ps ≡ true
-  → (i j : ℕ) → i < j → j < length ps → end (pair-at ps i) ≤ pair-at ps j .offset
+    → (i j : ℕ) → i < j → j < length ps → end (pair-at ps i) ≤ pair-at ps j .offset
 laid-apart from limit [] h i j k l = omega arith
 laid-apart from limit (p ∷ ps) h i zero k l = omega arith
 laid-apart from limit (p ∷ ps) h zero (suc j) k l = laid-starts (end p) limit ps (front from limit p ps h .rest) j (omega arith)
 laid-apart from limit (p ∷ ps) h (suc i) (suc j) k l = laid-apart (end p) limit ps (front from limit p ps h .rest) i j (omega arith) (omega arith)
 
 rule-laid : (from limit : ℕ) (ps : List Pair) → ((i : ℕ) → i < length ps → from ≤ pair-at ps i .offset) → RuleOfPairs limit ps
-  → laid from limit ps ≡ true
+    → laid from limit ps ≡ true
 rule-laid from limit [] h r = refl
 rule-laid from limit (p ∷ ps) h r =
     and-from (leb from (p .offset)) (leb (end p) limit && laid (end p) limit ps) (le-leb from (p .offset) (h 0 (omega arith)))
-      (and-from (leb (end p) limit) (laid (end p) limit ps) (le-leb (end p) limit (r .within 0 (omega arith)))
-        (rule-laid (end p) limit ps (λ i l. r .apart 0 (suc i) (omega arith) (omega arith))
-          (record {
-            within = λ i l. r .within (suc i) (omega arith);
-            apart = λ i j k l. r .apart (suc i) (suc j) (omega arith) (omega arith);
-          })))
+    (and-from (leb (end p) limit) (laid (end p) limit ps) (le-leb (end p) limit (r .within 0 (omega arith)))
+    (rule-laid (end p) limit ps (λ i l. r .apart 0 (suc i) (omega arith) (omega arith))
+    (record {
+      within = λ i l. r .within (suc i) (omega arith);
+      apart = λ i j k l. r .apart (suc i) (suc j) (omega arith) (omega arith);
+    })))
 
 pub laid-is-the-rule : Laid-is-the-rule
 laid-is-the-rule limit ps =

@@ -1,5 +1,6 @@
 -- A call's checks, one after the other: the first whose condition holds sends the call back.
 use mathlib.Core.Bool.{Bool, true, false}
+use mathlib.Core.List.{List, [], _∷_}
 use Rattle.std.specs.declared.result.Result.{Result}
 use Rattle.std.specs.declared.result.Result.the-variants.{Ok, Err}
 use Rattle.rules.specs.declared.refusal.Refusal.{Refusal}
@@ -18,3 +19,18 @@ after was (Err why) = was
 abbrev pub answer : {A : Type 0} → Result A Refusal → Result (Unit {0}) Refusal
 answer (Ok new) = Ok tt
 answer (Err why) = Err why
+
+-- One check of a call: its condition, and why the call is sent back where that holds.
+pub record Check : Type 0 where
+  pub holds : Bool
+  pub why : Refusal
+
+-- The checks in their order, then the rest of the call.
+abbrev pub sift : {A : Type 0} → List Check → Result A Refusal → Result A Refusal
+sift [] rest = rest
+sift (c ∷ cs) rest = guard (c .holds) (c .why) (sift cs rest)
+
+-- What goes on where nothing was refused.
+abbrev pub and-then : {A B : Type 0} → Result A Refusal → (A → Result B Refusal) → Result B Refusal
+and-then (Ok x) next = next x
+and-then (Err why) next = Err why

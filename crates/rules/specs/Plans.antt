@@ -39,15 +39,35 @@ abbrev pub families-above : List ℕ → Bool
 families-above [] = false
 families-above (f ∷ fs) = ltb 3 f || families-above fs
 
+-- What may be wrong with a table, in the order of the numbers.
+abbrev pub no-room : Plan → Bool
+no-room plan = leb 4 (length (plan .tables))
+
+abbrev pub wrong-columns : List ℕ → Bool
+wrong-columns columns = not (leb 1 (length columns) && leb (length columns) 4)
+
+abbrev pub wrong-families : ℕ → List ℕ → Bool
+wrong-families row columns = ltb 3 row || families-above columns
+
+abbrev pub wrong-count : Plan → List Pair → Bool
+wrong-count plan lots = not (eqb (length lots) (plan .vendors))
+
+abbrev pub wrong-pairs : List Pair → Bool
+wrong-pairs lots = not (laid 0 slots lots)
+
+-- A plan with one table more.
+abbrev pub with-table : Plan → Table → Plan
+with-table plan table = record { vendors = plan .vendors; tables = plan .tables ++ table ∷ [] }
+
 -- Declaring a table.
 abbrev pub declare : Plan → Table → Result Plan Refusal
 declare plan table =
-    guard (leb 4 (length (plan .tables))) TooManyTables
-    (guard (not (leb 1 (length (table .columns)) && leb (length (table .columns)) 4)) ColumnCount
-    (guard (ltb 3 (table .row) || families-above (table .columns)) FamilyTooHigh
-    (guard (not (eqb (length (table .lots)) (plan .vendors))) PairCount
-    (guard (not (laid 0 slots (table .lots))) PairRule
-    (Ok (record { vendors = plan .vendors; tables = plan .tables ++ table ∷ [] }))))))
+    guard (no-room plan) TooManyTables
+    (guard (wrong-columns (table .columns)) ColumnCount
+    (guard (wrong-families (table .row) (table .columns)) FamilyTooHigh
+    (guard (wrong-count plan (table .lots)) PairCount
+    (guard (wrong-pairs (table .lots)) PairRule
+    (Ok (with-table plan table))))))
 
 -- What every plan keeps: one pair for each vendor in each table, under the rule of pairs, and every number within its
 -- limit.
