@@ -1,0 +1,3 @@
+mod PairSteps
+mod Declaring
+mod Pushed
