@@ -1,0 +1,4 @@
+pub mod Grown
+pub mod Order
+mod Pushes
+mod Places
