@@ -1,0 +1,16 @@
+pub mod Runs
+pub mod Spelled
+pub mod FirstBytes
+pub mod Stretches
+pub mod Found
+pub mod Answered
+pub mod TokenLaws
+pub mod TokenOrder
+pub mod SmallTexts
+pub mod ScopeLaws
+pub mod ReadingCases
+pub mod Gives
+pub mod ReadParts
+pub mod GoodCode
+pub mod ReadScripts
+pub mod TextPromises

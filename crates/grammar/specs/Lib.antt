@@ -1,0 +1,14 @@
+pub mod Spelling
+pub mod Tokens
+pub mod TokenRule
+pub mod TokenList
+pub mod TokenCases
+pub mod Scopes
+pub mod Steps
+pub mod Clauses
+pub mod Expressions
+pub mod Statements
+pub mod Reading
+pub mod ReadScripts
+pub mod TextPromises
+pub mod ReadingCases

@@ -1,0 +1,4 @@
+pub mod Runs
+pub mod LookUps
+pub mod Packing
+pub mod Values
