@@ -1,0 +1,5 @@
+pub mod Rows
+pub mod Lots
+pub mod Tables
+pub mod Stores
+pub mod Promises

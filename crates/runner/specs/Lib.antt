@@ -1,0 +1,4 @@
+pub mod Names
+pub mod OfRows
+pub mod Standing
+pub mod Whole
