@@ -9,7 +9,7 @@ ghost use Rattle.bench.specs.Answers.{posted, figured};
 use crate::reads::{check_lot, width};
 use crate::state::State;
 use admission::admit;
-use arrayvec::ArrayVec;
+use inplace::ArrayVec;
 use lattice::Lattice;
 use rules::Refusal;
 

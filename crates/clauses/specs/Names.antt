@@ -1,6 +1,6 @@
 -- What the names of the code stand for.
 use Rattle.std.specs.Prelude.{ℕ, Bool, cond, List, [], ◌∷◌, length, Ok, Err, Result, nat_lt}
-use Rattle.arrayvec.specs.Held.{held}
+use Rattle.inplace.specs.Held.{held}
 use Rattle.grammar.specs.Tokens.{Refusal}
 use Rattle.grammar.specs.Scopes as grammar
 use Rattle.grammar.specs.Scopes.{Named, Scope, most_names, make, is_variable, is_index, is_cursor, has_value}

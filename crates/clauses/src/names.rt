@@ -5,7 +5,7 @@ ghost use Rattle.grammar.specs.Scopes.{look_up, may_make, use_name, most_names};
 ghost use Rattle.grammar.specs.Clauses.{walks, walked};
 ghost use Rattle.clauses.specs.Names.{bound_of, bound_result, scope_of, with_name, asks};
 
-use arrayvec::ArrayVec;
+use inplace::ArrayVec;
 use grammar::{NameKind, Refusal};
 
 // A name: its letters, which are part of the text, and what it stands for.

@@ -1,6 +1,6 @@
 -- What is said of a flow that is not allowed: its statement, its labels, and a valuation at which it breaks its rule.
 use Rattle.std.specs.Prelude.{◌≡◌, ℕ, zero, suc, ◌<◌, true, false, ◌⊎◌, List, [], ◌∷◌, ◌++◌, length, ◌==◌, slice_index_or}
-use Rattle.arrayvec.specs.Held.{held as items_of}
+use Rattle.inplace.specs.Held.{held as items_of}
 use Rattle.lattice.specs.Order.{Order}
 use Rattle.rules.specs.Plans.{Plan}
 use Rattle.rules.specs.Scripts.{Expr, Code}

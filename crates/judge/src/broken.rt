@@ -1,4 +1,4 @@
-use arrayvec::ArrayVec;
+use inplace::ArrayVec;
 
 // A flow that is not allowed: what is wrong with it, and a valuation at which it is.
 #[derive(Clone, Copy)]

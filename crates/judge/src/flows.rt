@@ -1,6 +1,6 @@
 // The flows of each flat statement, at one valuation, held against the lattice.
 ghost use Rattle.std.specs.Prelude.{◌≡◌, ◌<◌, map, length};
-ghost use Rattle.arrayvec.specs.Held.{held};
+ghost use Rattle.inplace.specs.Held.{held};
 ghost use Rattle.layout.specs.Plans.{plan_of};
 ghost use Rattle.rules.specs.Labels.{enter, cursor, row_label, cell_label, var_label, expr_label};
 ghost use Rattle.rules.specs.Flows.{cells_flow, add_flows};
@@ -16,7 +16,7 @@ use crate::labels::{cell_label, expr_label, held_label, row_label};
 use crate::name::Name;
 use crate::scope::Scope;
 use crate::valuation::Valuation;
-use arrayvec::ArrayVec;
+use inplace::ArrayVec;
 use lattice::Lattice;
 use layout::Plan;
 use script::Script;

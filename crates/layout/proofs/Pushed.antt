@@ -4,8 +4,8 @@ use lib.ListN.{length-map}
 use Rattle.std.proofs.lemmas.List.{map_push}
 use Rattle.std.proofs.lemmas.Bool.{leb-false, leb-true, lt-ltb, and_parts}
 use Rattle.std.proofs.lemmas.Bool.Decides.{nat_tests}
-use Rattle.arrayvec.specs.declared.array_vec.ArrayVec.{ArrayVec}
-use Rattle.arrayvec.specs.Held.{held}
+use Rattle.inplace.specs.declared.array_vec.ArrayVec.{ArrayVec}
+use Rattle.inplace.specs.Held.{held}
 use Rattle.rules.specs.Plans.{Plan, Table, with_table, sound, sound_tables}
 use Rattle.layout.specs.declared.pair.Pair as pair
 use Rattle.layout.specs.declared.table.Table as coded

@@ -1,7 +1,7 @@
 -- What a table of the code stands for, and what the fields of a plan do.
 use Rattle.std.specs.Prelude.{ℕ, List, map}
-use Rattle.arrayvec.specs.Held.{held}
-use Rattle.arrayvec.specs.declared.array_vec.ArrayVec.{ArrayVec}
+use Rattle.inplace.specs.Held.{held}
+use Rattle.inplace.specs.declared.array_vec.ArrayVec.{ArrayVec}
 use Rattle.rules.specs.Plans.{Table, Plan}
 use Rattle.layout.specs.Pairs.{pair_of}
 use Rattle.layout.specs.declared.pair.Pair as pair

@@ -10,7 +10,7 @@ use crate::pair::Pair;
 use crate::plan::Plan;
 use crate::span::keep_the_rule;
 use crate::table::Table;
-use arrayvec::ArrayVec;
+use inplace::ArrayVec;
 use rules::Refusal;
 
 const MOST_VENDORS: u32 = 32;

@@ -3,7 +3,7 @@ ghost use Rattle.rules.specs.Plans.{sound};
 ghost use Rattle.layout.specs.Tables.{laid_out};
 
 use crate::table::Table;
-use arrayvec::ArrayVec;
+use inplace::ArrayVec;
 
 // The plan of a bench. It keeps the rule of pairs and every limit, whatever calls are made on it.
 #[derive(Drop)]

@@ -3,7 +3,7 @@ ghost use Rattle.layout.specs.Pairs.{pair_of};
 ghost use Rattle.layout.specs.Tables.{table_of, declared};
 
 use crate::pair::Pair;
-use arrayvec::ArrayVec;
+use inplace::ArrayVec;
 
 // A declared table: the family of its rows, the families of its columns, and for each vendor the pair of slots that is
 // the vendor's lot.

@@ -10,7 +10,7 @@ use Rattle.lots.specs.declared.table.Table as stored
 use Rattle.lots.specs.Rows.{Row, row_of, newest}
 use Rattle.lots.specs.Lots.{span_of, lot_in, lot_at, orderly, OnlyIn}
 use Rattle.lots.specs.Tables.{lots_in, pairs_in, LotOf}
-use Rattle.arrayvec.proofs.Replaced.{take_of_set}
+use Rattle.inplace.proofs.Replaced.{take_of_set}
 use Rattle.lots.proofs.LotParts.{part_of, with_part, orderly_set, spans_stay, written, outside_before, outside_behind}
 
 -- Where there is no such vendor, nothing is set.

@@ -10,7 +10,7 @@ use Rattle.lots.specs.Rows.{Row}
 use Rattle.lots.specs.Lots.{lot_at, OnlyIn}
 use Rattle.lots.specs.Tables.{lots_in, pairs_in, slots_in}
 use Rattle.lots.specs.Stores.{lots_at, room_in, has_lot, row_entered, OnlyInLot}
-use Rattle.arrayvec.proofs.Replaced.{take_of_set}
+use Rattle.inplace.proofs.Replaced.{take_of_set}
 use Rattle.lots.proofs.Putting.{put_same, put_in, put_out, none_at}
 
 -- Where nothing is written, nothing is changed.

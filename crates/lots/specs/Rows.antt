@@ -1,8 +1,8 @@
 -- What a row of the code stands for, and what the rows in some slots do.
 use Rattle.std.specs.Prelude.{◌≡◌, ℕ, ◌<◌, cond, List, [], map, reverse, length, take, ◌==◌, slice_index_or, slice_set}
 use Rattle.rules.specs.Lots.{Lot}
-use Rattle.arrayvec.specs.declared.array_vec.ArrayVec.{ArrayVec}
-use Rattle.arrayvec.specs.Held.{held}
+use Rattle.inplace.specs.declared.array_vec.ArrayVec.{ArrayVec}
+use Rattle.inplace.specs.Held.{held}
 
 -- A row of the code: a list of cells, held in place.
 abbrev pub Row : Type 0

@@ -10,7 +10,7 @@ ghost use Rattle.lots.specs.Stores.{lots_of, pairs_of, plan_pairs};
 use crate::lot::Lot;
 use crate::store::Store;
 use crate::table::Table;
-use arrayvec::ArrayVec;
+use inplace::ArrayVec;
 use layout::{Pair, Plan};
 
 impl Table {

@@ -1,4 +1,4 @@
-use arrayvec::ArrayVec;
+use inplace::ArrayVec;
 
 // A row of up to four cells.
 pub type Row = ArrayVec<u32, 4>;

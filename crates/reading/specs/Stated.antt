@@ -1,6 +1,6 @@
 -- What a read statement of the code stands for, and what reading it leaves of the script's nodes.
 use Rattle.std.specs.Prelude.{◌≡◌, ℕ, ◌+◌, ◌*◌, ◌<◌, ◌≤◌, true, List, map, length, Ok, Err, Result}
-use Rattle.arrayvec.specs.Held.{held}
+use Rattle.inplace.specs.Held.{held}
 use Rattle.rules.specs.Scripts as rules
 use Rattle.grammar.specs.Tokens.{Refusal}
 use Rattle.grammar.specs.Scopes.{Scope}

@@ -1,6 +1,6 @@
 // The statement `add`, by recursion over the expressions still due.
 ghost use Rattle.std.specs.Prelude.{◌≡◌, ◌+◌, ◌-◌, ◌*◌, ◌<◌, ◌≤◌, true, map, length};
-ghost use Rattle.arrayvec.specs.Held.{held};
+ghost use Rattle.inplace.specs.Held.{held};
 ghost use Rattle.rules.specs.Lots.{width};
 ghost use Rattle.grammar.specs.Statements.{behind, read_values, read_add};
 ghost use Rattle.layout.specs.Plans.{plan_of};
@@ -15,7 +15,7 @@ ghost use Rattle.reading.specs.Added.{behind_of, valued, Added};
 use crate::env::Env;
 use crate::expressions::read_expr;
 use crate::statements::{MOST_PARENS, Stated};
-use arrayvec::ArrayVec;
+use inplace::ArrayVec;
 use clauses::{Names, expect_mark, read_lot, width_of};
 use grammar::{Counts, Mark, Refusal};
 use layout::Plan;

@@ -11,7 +11,7 @@ use crate::env::Env;
 use crate::evaluate::evaluate;
 use crate::flat::{add_row, alter_rows, begin, drop_rows, row_of, set_var};
 use crate::locals::Locals;
-use arrayvec::ArrayVec;
+use inplace::ArrayVec;
 use lots::{Row, Store};
 use script::{Script, Stmt};
 

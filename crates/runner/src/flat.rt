@@ -1,6 +1,6 @@
 // What the statements without a block do, each with its steps.
 ghost use Rattle.std.specs.Prelude.{◌≡◌, true, map};
-ghost use Rattle.arrayvec.specs.Held.{held};
+ghost use Rattle.inplace.specs.Held.{held};
 ghost use Rattle.rules.specs.Plans.{Plan};
 ghost use Rattle.rules.specs.Scoping.{nameable};
 ghost use Rattle.rules.specs.Evaluation.{State, eval, do_set, do_add, do_drop, do_alter, count_steps};
@@ -15,7 +15,7 @@ use crate::env::Env;
 use crate::evaluate::evaluate;
 use crate::locals::Locals;
 use crate::of_row::OfRow;
-use arrayvec::ArrayVec;
+use inplace::ArrayVec;
 use lots::{Row, Store};
 use script::Script;
 

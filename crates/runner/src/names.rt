@@ -8,7 +8,7 @@ ghost use Rattle.runner.specs.Names.{val_of, cursors_of, vars_of, Nameless, Rena
 
 use crate::env::Env;
 use crate::locals::Locals;
-use arrayvec::ArrayVec;
+use inplace::ArrayVec;
 use lots::Row;
 use script::Index;
 

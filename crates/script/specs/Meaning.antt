@@ -1,6 +1,6 @@
 -- What a script of the code stands for.
 use Rattle.std.specs.Prelude.{List, [], ◌∷◌, get_or}
-use Rattle.arrayvec.specs.Held.{held}
+use Rattle.inplace.specs.Held.{held}
 use Rattle.rules.specs.Scripts as rules
 use Rattle.script.specs.declared.node.Expr.{Expr}
 use Rattle.script.specs.declared.node.Stmt.{Stmt}

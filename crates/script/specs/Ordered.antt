@@ -1,6 +1,6 @@
 -- Parts stand before what they are part of.
 use Rattle.std.specs.Prelude.{ℕ, suc, ◌+◌, Bool, true, false, ◌&&◌, List, [], ◌∷◌, nat_lt}
-use Rattle.arrayvec.specs.Held.{held}
+use Rattle.inplace.specs.Held.{held}
 use Rattle.script.specs.declared.node.Expr.{Expr}
 use Rattle.script.specs.declared.node.Expr.TheVariants.{Literal, Mine, OfIndex, Variable, Cell, Apply}
 use Rattle.script.specs.declared.node.Stmt.{Stmt}

@@ -8,7 +8,7 @@ ghost use Rattle.script.specs.Meaning.{exprs_of, codes_of, script_of};
 
 use crate::node::{Expr, Stmt};
 use crate::script::Script;
-use arrayvec::ArrayVec;
+use inplace::ArrayVec;
 
 const MOST_EXPRS: usize = 256;
 

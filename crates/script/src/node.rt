@@ -1,5 +1,5 @@
 // The nodes of a script. A name is its level: how many names were in scope where it was made.
-use arrayvec::ArrayVec;
+use inplace::ArrayVec;
 
 // Which vendor is meant: one by its number, the vendor that the script runs for, or the one that an index stands for.
 #[derive(Clone, Copy)]

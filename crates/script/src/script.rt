@@ -1,9 +1,9 @@
 ghost use Rattle.std.specs.Prelude.{◌≡◌, true, length};
-ghost use Rattle.arrayvec.specs.Held.{held};
+ghost use Rattle.inplace.specs.Held.{held};
 ghost use Rattle.script.specs.Ordered.{exprs_ordered, stmts_ordered};
 
 use crate::node::{Expr, Stmt};
-use arrayvec::ArrayVec;
+use inplace::ArrayVec;
 
 // A script: its expressions, its statements, and the block that it begins with.
 #[derive(Drop)]

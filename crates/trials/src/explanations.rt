@@ -2,7 +2,7 @@
 #[cfg(test)]
 mod tests {
     use crate::small::{push, push_expr, three_vendors};
-    use arrayvec::ArrayVec;
+    use inplace::ArrayVec;
     use judge::explain;
     use lattice::Compartments;
     use script::{Expr, Index, Mark, Op, Script, Stmt};

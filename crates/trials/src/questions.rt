@@ -6,7 +6,7 @@ ghost use Rattle.std.proofs.Common.{rules};
 #[cfg(test)]
 mod tests {
     use crate::small::{push, push_expr, three_vendors};
-    use arrayvec::ArrayVec;
+    use inplace::ArrayVec;
     use judge::judge;
     use lattice::{Grades, Lattice};
     use layout::Plan;

@@ -1,6 +1,6 @@
 use Rattle.std.proofs.Common.{◌≡◌, sym, refl, ap, ◌∙◌, arith}
 use Rattle.std.proofs.lemmas.Bool.{lt-ltb, cond-true}
-use Rattle.arrayvec.specs.Held.{held}
+use Rattle.inplace.specs.Held.{held}
 use Rattle.judge.specs.Names.{scope_of, val_of}
 use Rattle.judge.specs.Breaking.{indexes_below}
 use Rattle.judge.proofs.Indexes.{with_index, without}

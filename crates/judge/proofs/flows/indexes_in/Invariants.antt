@@ -1,5 +1,5 @@
 use Rattle.std.proofs.Common.{◌≡◌, ◌≤◌, length}
-use Rattle.arrayvec.specs.Held.{held}
+use Rattle.inplace.specs.Held.{held}
 use Rattle.judge.specs.Names.{scope_of, val_of}
 use Rattle.judge.specs.Breaking.{indexes_below}
 use Rattle.judge.proofs.flows.indexes_in.Given as goal

@@ -1,5 +1,5 @@
 use Rattle.std.proofs.Common.{◌≡◌, ◌-◌, ◌<◌, [], ◌∷◌, ◌++◌, map, length, Ok, sym, ap, ◌∙◌, arith, rules}
-use Rattle.arrayvec.specs.Held.{held}
+use Rattle.inplace.specs.Held.{held}
 use Rattle.grammar.specs.Tokens.{token_at}
 use Rattle.grammar.specs.Statements.{read_values}
 use Rattle.layout.specs.Plans.{plan_of}

@@ -1,7 +1,7 @@
 -- A block is run statement by statement.
 use Rattle.std.proofs.Common.{◌≡◌, ℕ, ◌<◌, cond, eqb, map, length, sym, refl, ap, ◌∙◌, subst, arith}
 use mathlib.Core.List.{map-map}
-use Rattle.arrayvec.specs.Held.{held}
+use Rattle.inplace.specs.Held.{held}
 use Rattle.rules.specs.Lots.{upd}
 use Rattle.rules.specs.Evaluation.{eval, whom, put_index}
 use Rattle.script.specs.Nodes.{expr_at, block_at, index_of, mark_of}

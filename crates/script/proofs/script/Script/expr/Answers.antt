@@ -1,5 +1,5 @@
 use Rattle.std.proofs.Common.{◌≡◌, sym, refl, ap, ◌∙◌}
-use Rattle.arrayvec.specs.Held.{held}
+use Rattle.inplace.specs.Held.{held}
 use Rattle.script.specs.Meaning.{exprs_of}
 use Rattle.script.proofs.Places.{expr_place, no_expr}
 use Rattle.script.proofs.script.Script.expr.Goals as goal

@@ -1,5 +1,5 @@
 use Rattle.std.proofs.Common.{◌≡◌, ◌+◌, ◌<◌, ◌≤◌, true, false, length, Some, None, sym, refl, ap, ◌∙◌, ap₂, arith}
-use Rattle.arrayvec.specs.Held.{held}
+use Rattle.inplace.specs.Held.{held}
 use Rattle.script.specs.Nodes.{code_of}
 use Rattle.script.specs.Ordered.{stmt_ordered}
 use Rattle.script.specs.Pushing.{place_if, pushed}

@@ -1,5 +1,5 @@
 use Rattle.std.proofs.Common.{◌≡◌, ℕ, ◌-◌, ◌<◌, ◌≤◌, true, length, get_or, IfSome, Some, None, Option, sym, refl, ap, ◌∙◌, arith, MatchOption}
-use Rattle.arrayvec.specs.Held.{held}
+use Rattle.inplace.specs.Held.{held}
 use Rattle.rules.specs.Scripts as rules
 use Rattle.script.specs.declared.node.Stmt.{Stmt}
 use Rattle.script.specs.declared.script.Script.{Script}

@@ -1,6 +1,6 @@
 // A list of at most N items, held in place: it needs no memory but its own.
 ghost use Rattle.std.specs.Prelude.{◌≡◌, ◌+◌, ◌<◌, ◌≤◌, [], ◌∷◌, ◌++◌, length, take, if◌then◌else◌, MatchOption, nat_lt, slice_index_or, slice_set};
-ghost use Rattle.arrayvec.specs.Held.{held};
+ghost use Rattle.inplace.specs.Held.{held};
 
 pub mod array_vec;
 

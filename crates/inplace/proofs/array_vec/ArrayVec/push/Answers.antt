@@ -1,8 +1,8 @@
 use Rattle.std.proofs.Common.{◌≡◌, ◌<◌, ◌≤◌, length, sym, refl, ap, ◌∙◌, arith, length-take, rules}
 use Rattle.std.proofs.lemmas.Bool.{lt-ltb, le-ltb}
 use Rattle.std.proofs.lemmas.List.{take_more_set}
-use Rattle.arrayvec.specs.Held.{held}
-use Rattle.arrayvec.proofs.array_vec.ArrayVec.push.Goals as goal
+use Rattle.inplace.specs.Held.{held}
+use Rattle.inplace.proofs.array_vec.ArrayVec.push.Goals as goal
 
 pub returns-then-at : goal.returns-then-at
 returns-then-at g c =

@@ -1,8 +1,8 @@
 use Rattle.std.proofs.Common.{◌≡◌, ◌<◌, ◌≤◌, true, [], ◌∷◌, ◌++◌, length, take, sym, refl, ap, ◌∙◌, arith, length-take, take_all, rules}
 use Rattle.std.proofs.lemmas.Bool.{ltb-true}
 use Rattle.std.proofs.lemmas.List.{take_more, get_or_read}
-use Rattle.arrayvec.specs.Held.{held}
-use Rattle.arrayvec.proofs.array_vec.ArrayVec.from_slice.Goals as goal
+use Rattle.inplace.specs.Held.{held}
+use Rattle.inplace.proofs.array_vec.ArrayVec.from_slice.Goals as goal
 
 pub loop-item-preserved : goal.loop-item-preserved
 loop-item-preserved g c =
