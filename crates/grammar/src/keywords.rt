@@ -1,4 +1,6 @@
 ghost use Rattle.std.specs.Prelude.{◌≡◌, Decides};
+ghost use Rattle.grammar.specs.Spelling.{letters};
+ghost use Rattle.std.specs.Str.{bytes_eq};
 ghost use Rattle.std.specs.Cmp.Rules.{comparing};
 ghost use Rattle.std.proofs.Common.{rules};
 
@@ -25,11 +27,14 @@ pub enum Keyword {
 }
 
 impl PartialEq for Keyword {
-    ghost equals = { λ a b r. Decides r (a ≡ b) };
+    ghost eq = { λ a b. bytes_eq (letters a) (letters b) };
 
     ghost laws = { Prim.search (comparing, rules) };
 
-    fn eq(&self, other: &Keyword) -> bool {
+    fn eq(&self, other: &Keyword) -> bool
+        ensures answer { result ≡ bytes_eq (letters self.now) (letters other.now) }
+        ensures decides { Decides result (self.now ≡ other.now) }
+    {
         *self as u8 == *other as u8
     }
 }

@@ -1,4 +1,5 @@
-ghost use Rattle.std.specs.Prelude.{◌≡◌, Decides};
+ghost use Rattle.std.specs.Prelude.{◌≡◌, ◌==◌, Decides};
+ghost use Rattle.grammar.specs.Spelling.{byte};
 ghost use Rattle.std.specs.Cmp.Rules.{comparing};
 ghost use Rattle.std.proofs.Common.{rules};
 
@@ -22,11 +23,14 @@ pub enum Mark {
 }
 
 impl PartialEq for Mark {
-    ghost equals = { λ a b r. Decides r (a ≡ b) };
+    ghost eq = { λ a b. byte a == byte b };
 
     ghost laws = { Prim.search (comparing, rules) };
 
-    fn eq(&self, other: &Mark) -> bool {
+    fn eq(&self, other: &Mark) -> bool
+        ensures answer { result ≡ (byte self.now == byte other.now) }
+        ensures decides { Decides result (self.now ≡ other.now) }
+    {
         *self as u8 == *other as u8
     }
 }

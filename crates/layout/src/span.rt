@@ -16,7 +16,7 @@ pub trait Span {
 // Whether each span starts at or after the end of the one before, and ends at or before the limit. Sums are taken in
 // 64 bits, so that any offset and any length will do.
 pub fn keep_the_rule<S: Span>(spans: &[S], limit: u32) -> bool
-    ensures { result ≡ laid 0 limit (map pair spans.now) }
+    ensures { result ≡ laid 0 limit (map S.pair spans.now) }
 {
     let mut end: u64 = 0;
     for span in spans {
