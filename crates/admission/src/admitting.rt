@@ -31,7 +31,7 @@ fn admit_script<L: Lattice>(
     size: usize,
     script: Script,
 ) -> Result<Admitted, Refusal>
-    ensures { admitted result ≡ admit_code (answers lattice.now) (plan_of plan.now) size (script_of script) }
+    ensures { admitted result ≡ admit_code (L.answers lattice.now) (plan_of plan.now) size (script_of script) }
 {
     if let Some(place) = judge(lattice, plan, &script) {
         return Err(Refusal::FlowNotAllowed(place));
@@ -48,7 +48,7 @@ fn admit_script<L: Lattice>(
 
 // What becomes of a text: it is read, its flows are judged, and its figure is taken.
 pub fn admit<L: Lattice>(lattice: &L, plan: &Plan, text: &[u8]) -> Result<Admitted, Refusal>
-    ensures { admitted result ≡ admits (answers lattice.now) (plan_of plan.now) text.now }
+    ensures { admitted result ≡ admits (L.answers lattice.now) (plan_of plan.now) text.now }
 {
     let script = read(plan, text)?;
     admit_script(lattice, plan, text.len(), script)

@@ -62,7 +62,7 @@ impl State {
         place: u32,
         column: u32,
     ) -> Result<u32, Refusal>
-        ensures { looked result ≡ answer_to (answers lattice.now) self.now (Call.look clearance table vendor place column) }
+        ensures { looked result ≡ answer_to (L.answers lattice.now) self.now (Call.look clearance table vendor place column) }
     {
         if !lattice.is_label(clearance) {
             return Err(Refusal::ClearanceNoLabel);
@@ -92,7 +92,7 @@ impl State {
         table: u32,
         vendor: u32,
     ) -> Result<RowCount, Refusal>
-        ensures { counted result ≡ answer_to (answers lattice.now) self.now (Call.count clearance table vendor) }
+        ensures { counted result ≡ answer_to (L.answers lattice.now) self.now (Call.count clearance table vendor) }
     {
         if !lattice.is_label(clearance) {
             return Err(Refusal::ClearanceNoLabel);
@@ -107,7 +107,7 @@ impl State {
 
     // The steps of the newest run.
     pub(crate) fn meter<L: Lattice>(&self, lattice: &L, clearance: u64) -> Result<u32, Refusal>
-        ensures { metered result ≡ answer_to (answers lattice.now) self.now (Call.meter clearance) }
+        ensures { metered result ≡ answer_to (L.answers lattice.now) self.now (Call.meter clearance) }
     {
         if !lattice.is_label(clearance) {
             return Err(Refusal::ClearanceNoLabel);

@@ -58,8 +58,8 @@ impl State {
         slot: u32,
         text: &[u8],
     ) -> Result<u32, Refusal>
-        ensures answer { figured result ≡ answer_to (answers lattice.now) self.old (Call.admit slot text.now) }
-        ensures after { bench_in self.new ≡ bench_after (answers lattice.now) self.old (Call.admit slot text.now) }
+        ensures answer { figured result ≡ answer_to (L.answers lattice.now) self.old (Call.admit slot text.now) }
+        ensures after { bench_in self.new ≡ bench_after (L.answers lattice.now) self.old (Call.admit slot text.now) }
         ensures same { plan_in self.new ≡ plan_in self.old }
     {
         if slot > LAST_SLOT {

@@ -34,7 +34,7 @@ fn sees_cell<L: Lattice>(
     vendor: u32,
     column: usize,
 ) -> bool
-    ensures { result ≡ seen_cell (answers lattice.now) (plan_of plan.now) label table vendor column }
+    ensures { result ≡ seen_cell (L.answers lattice.now) (plan_of plan.now) label table vendor column }
 {
     lot_exists(plan, table, vendor)
         && column < columns_of(plan, table)
@@ -51,7 +51,7 @@ fn same_values<L: Lattice>(
     left: &[u32],
     right: &[u32],
 ) -> bool
-    ensures { result ≡ same_values (answers lattice.now) (plan_of plan.now) label table vendor 0 left.now right.now }
+    ensures { result ≡ same_values (L.answers lattice.now) (plan_of plan.now) label table vendor 0 left.now right.now }
 {
     if left.len() != right.len() {
         return false;
@@ -80,7 +80,7 @@ fn like_post<L: Lattice>(
     values: &[u32],
     call: &Call,
 ) -> bool
-    ensures { result ≡ like_post (answers lattice.now) (plan_of plan.now) label table vendor values.now (call_of call.now) }
+    ensures { result ≡ like_post (L.answers lattice.now) (plan_of plan.now) label table vendor values.now (call_of call.now) }
 {
     match call {
         Call::Post {
@@ -172,7 +172,7 @@ fn is_meter(clearance: u64, call: &Call) -> bool
 
 // Whether two calls may stand beside each other: equal ones, and posts that differ only in values that are not seen.
 fn are_alike<L: Lattice>(lattice: &L, plan: &Plan, label: u64, left: &Call, right: &Call) -> bool
-    ensures { result ≡ alike (answers lattice.now) (plan_of plan.now) label (call_of left.now) (call_of right.now) }
+    ensures { result ≡ alike (L.answers lattice.now) (plan_of plan.now) label (call_of left.now) (call_of right.now) }
 {
     match left {
         Call::Post {
@@ -201,8 +201,8 @@ fn are_alike<L: Lattice>(lattice: &L, plan: &Plan, label: u64, left: &Call, righ
 // The place of the first call from a place on that is not struck out; the number of calls where there is none.
 fn next_seen<L: Lattice>(lattice: &L, plan: &Plan, label: u64, calls: &[Call], from: usize) -> usize
     ensures within { result ≤ length calls.now }
-    ensures same { strike (answers lattice.now) (plan_of plan.now) label (map call_of (drop result calls.now)) ≡ strike (answers lattice.now) (plan_of plan.now) label (map call_of (drop from calls.now)) }
-    ensures seen { result < length calls.now → HoldsAt (λ call. unseen (answers lattice.now) (plan_of plan.now) label (call_of call) ≡ false) calls.now result }
+    ensures same { strike (L.answers lattice.now) (plan_of plan.now) label (map call_of (drop result calls.now)) ≡ strike (L.answers lattice.now) (plan_of plan.now) label (map call_of (drop from calls.now)) }
+    ensures seen { result < length calls.now → HoldsAt (λ call. unseen (L.answers lattice.now) (plan_of plan.now) label (call_of call) ≡ false) calls.now result }
 {
     let mut at = from;
     while at < calls.len() {
@@ -222,8 +222,8 @@ pub fn agree<L: Lattice>(
     left: &[Call],
     right: &[Call],
 ) -> bool
-    ensures value { result ≡ agree (answers lattice.now) (plan_of plan.now) label (map call_of left.now) (map call_of right.now) }
-    ensures decides { Decides result (Agree (answers lattice.now) (plan_of plan.now) label (map call_of left.now) (map call_of right.now)) }
+    ensures value { result ≡ agree (L.answers lattice.now) (plan_of plan.now) label (map call_of left.now) (map call_of right.now) }
+    ensures decides { Decides result (Agree (L.answers lattice.now) (plan_of plan.now) label (map call_of left.now) (map call_of right.now)) }
 {
     let mut at = 0;
     for call in left {

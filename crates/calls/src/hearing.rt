@@ -18,7 +18,7 @@ pub(crate) fn lot_exists(plan: &Plan, table: u32, vendor: u32) -> bool
 
 // Whether the call is a post that is struck out at the label.
 pub(crate) fn is_unseen<L: Lattice>(lattice: &L, plan: &Plan, label: u64, call: &Call) -> bool
-    ensures { result ≡ unseen (answers lattice.now) (plan_of plan.now) label (call_of call.now) }
+    ensures { result ≡ unseen (L.answers lattice.now) (plan_of plan.now) label (call_of call.now) }
 {
     match call {
         Call::Post { table, vendor, .. } => {
@@ -32,7 +32,7 @@ pub(crate) fn is_unseen<L: Lattice>(lattice: &L, plan: &Plan, label: u64, call: 
 // Whether the answer of a call is heard at the label: that of a read whose clearance is at or below it, and that of any
 // other call but a post that is struck out.
 pub fn hears<L: Lattice>(lattice: &L, plan: &Plan, label: u64, call: &Call) -> bool
-    ensures { result ≡ hears (answers lattice.now) (plan_of plan.now) label (call_of call.now) }
+    ensures { result ≡ hears (L.answers lattice.now) (plan_of plan.now) label (call_of call.now) }
 {
     match call {
         Call::Look { clearance, .. } => lattice.below(*clearance, label),

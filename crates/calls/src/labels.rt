@@ -37,7 +37,7 @@ fn column_family(plan: &Plan, table: u32, column: usize) -> u32
 
 // The label of the rows of a lot.
 pub fn row_label<L: Lattice>(lattice: &L, plan: &Plan, table: u32, vendor: u32) -> u64
-    ensures { result ≡ row_label (answers lattice.now) (plan_of plan.now) table vendor }
+    ensures { result ≡ row_label (L.answers lattice.now) (plan_of plan.now) table vendor }
 {
     lattice.tag(row_family(plan, table), vendor)
 }
@@ -50,7 +50,7 @@ pub fn cell_label<L: Lattice>(
     vendor: u32,
     column: usize,
 ) -> u64
-    ensures { result ≡ cell_label (answers lattice.now) (plan_of plan.now) table vendor column }
+    ensures { result ≡ cell_label (L.answers lattice.now) (plan_of plan.now) table vendor column }
 {
     let row = row_label(lattice, plan, table, vendor);
     let own = lattice.tag(column_family(plan, table, column), vendor);

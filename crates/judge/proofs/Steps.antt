@@ -17,7 +17,6 @@ use Rattle.script.specs.declared.script.Script.{Script}
 use Rattle.script.proofs.Grown.{grow_length}
 use Rattle.script.specs.Meaning.{grown_exprs, grown_codes, codes_of}
 use Rattle.script.specs.Nodes.{index_of, expr_at, block_at, code_of}
-use Rattle.judge.specs.declared.broken.Broken.{Broken}
 use Rattle.judge.specs.Verdicts.{found, own_fault}
 
 -- A verdict is that of a first part, and where that finds nothing, that of what comes later.
@@ -28,12 +27,12 @@ pub part : (first later : Option ℕ) → Split (earlier first later) first late
 part first later = record { is = refl }
 
 -- The first part's fault is passed up.
-pub stops : {whole first later : Option ℕ} {callee r : Result (Unit {0}) Broken} {p q : Broken} → Split whole first later → found callee ≡ first → callee ≡ Err p
+pub stops : {whole first later : Option ℕ} {callee r : Result (Unit {0}) ℕ} {p q : ℕ} → Split whole first later → found callee ≡ first → callee ≡ Err p
     → r ≡ Err q → q ≡ p → found r ≡ whole
 stops {later = later} s e w f h = ap found (f ∙ ap Err h) ∙ sym (s.is ∙ ap (λ z. earlier z later) (sym e ∙ ap found w))
 
 -- The first part has none.
-pub goes_on : {whole first later : Option ℕ} {callee : Result (Unit {0}) Broken} {done : Unit {0}} (r : Result (Unit {0}) Broken) → Split whole first later → found callee ≡ first → callee ≡ Ok done
+pub goes_on : {whole first later : Option ℕ} {callee : Result (Unit {0}) ℕ} {done : Unit {0}} (r : Result (Unit {0}) ℕ) → Split whole first later → found callee ≡ first → callee ≡ Ok done
     → found r ≡ later → found r ≡ whole
 goes_on {later = later} r s e w f = f ∙ sym (s.is ∙ ap (λ z. earlier z later) (sym e ∙ ap found w))
 

@@ -1,4 +1,4 @@
--- What a judged block answers, and the part of a statement by itself.
+-- What a judged block answers, as a place, and the part of a statement by itself.
 use Rattle.std.specs.Prelude.{ℕ, Some, None, Ok, Err, Option, Result}
 use Rattle.lattice.specs.Order.{Order}
 use Rattle.rules.specs.Plans.{Plan}
@@ -8,24 +8,11 @@ use Rattle.rules.specs.Evaluation.{Valuation, whom}
 use Rattle.rules.specs.Labels.{Scope}
 use Rattle.rules.specs.Flows.{set_flows, add_flows, drop_flows, alter_flows}
 use Rattle.rules.specs.Judging.{flow}
-use Rattle.judge.specs.declared.broken.Broken.{Broken}
 
--- The fault that was found, if any, and its place.
-abbrev pub told : Result (Unit {0}) Broken → Option Broken
-told (Ok done) = None
-told (Err broken) = Some broken
-
-abbrev pub place_in : Option Broken → Option ℕ
-place_in None = None
-place_in (Some broken) = Some broken.place
-
-abbrev pub found : Result (Unit {0}) Broken → Option ℕ
-found r = place_in (told r)
-
--- What holds of a fault, where there is one.
-abbrev pub Of : Option Broken → (Broken → Type 0) → Type 0
-Of None P = Unit {0}
-Of (Some broken) P = P broken
+-- The place of the fault that was found, if any.
+abbrev pub found : Result (Unit {0}) ℕ → Option ℕ
+found (Ok done) = None
+found (Err place) = Some place
 
 -- The fault of a block's first statement by itself, apart from its own blocks and from the rest.
 abbrev pub own_fault : Order → Plan → Scope → Valuation → ℕ → Code → Option ℕ

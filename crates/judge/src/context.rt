@@ -28,7 +28,7 @@ impl Drop for Raised<'_> {
 
 // Raises a context by a label, for as long as the guard lives.
 pub(crate) fn raise<'a, L: Lattice>(lattice: &L, context: &'a mut Context, label: u64) -> Raised<'a>
-    ensures label { result.context.now.label ≡ (answers lattice.now).join context.old.label label }
+    ensures label { result.context.now.label ≡ (L.answers lattice.now).join context.old.label label }
     ensures before { result.before ≡ context.old.label }
     ensures lender { result.context.ghost_name ≡ context.entry.ghost_name }
 {

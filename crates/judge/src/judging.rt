@@ -1,5 +1,5 @@
 // The judge: where a script breaks a flow rule first.
-ghost use Rattle.std.specs.Prelude.{◌≡◌, ℕ, ◌+◌, ◌<◌, ◌≤◌, ◌⊎◌, if◌then◌else◌, nat_eq};
+ghost use Rattle.std.specs.Prelude.{◌≡◌, ◌+◌, ◌<◌, ◌≤◌, if◌then◌else◌, nat_eq};
 ghost use Rattle.layout.specs.Plans.{plan_of};
 ghost use Rattle.rules.specs.Labels.{no_names, enter, cursor, turn as index-name};
 ghost use Rattle.rules.specs.Evaluation.{run_for, put_index, whom};
@@ -8,12 +8,10 @@ ghost use Rattle.rules.specs.Judging as rules;
 ghost use Rattle.script.specs.Nodes.{index_of, expr_at, block_at, code_of};
 ghost use Rattle.script.specs.Meaning.{exprs_of, codes_of, script_of};
 ghost use Rattle.judge.specs.Names.{scope_of, val_of};
-ghost use Rattle.judge.specs.Verdicts.{told, place_in, found, Of, own_fault};
-ghost use Rattle.judge.specs.Breaking.{BreaksFirst, Breaks, Explains};
+ghost use Rattle.judge.specs.Verdicts.{found, own_fault};
 
-use crate::broken::Broken;
 use crate::context::{Context, raise};
-use crate::flows::{alter_flow, check_add, check_flow, drop_flow, set_flow};
+use crate::flows::{add_flows, alter_flows, drop_flows, set_flows};
 use crate::labels::{expr_label, row_label};
 use crate::name::Name;
 use crate::scope::Scope;
@@ -22,26 +20,32 @@ use lattice::Lattice;
 use layout::Plan;
 use script::{Index, Script, Stmt};
 
-// The one with the least place; of two at one place, the one that was found first.
-fn least_of(so_far: Option<Broken>, turn: Result<(), Broken>) -> Option<Broken>
-    ensures place { place_in result ≡ rules.least_of (place_in so_far) (found turn) }
-    ensures value { (result ≡ so_far) ⊎ (result ≡ told turn) }
+// The fault of a statement at a place: none where its flow is allowed.
+fn flow(place: usize, allowed: bool) -> Result<(), usize>
+    ensures { found result ≡ rules.flow place allowed }
 {
-    let Err(newest) = turn else {
+    if allowed { Ok(()) } else { Err(place) }
+}
+
+// The one with the least place.
+fn least_of(so_far: Option<usize>, turn: Result<(), usize>) -> Option<usize>
+    ensures { result ≡ rules.least_of so_far (found turn) }
+{
+    let Err(place) = turn else {
         return so_far;
     };
     match so_far {
-        Some(earlier) if earlier.place <= newest.place => Some(earlier),
-        _ => Some(newest),
+        Some(earlier) if earlier < place => Some(earlier),
+        _ => Some(place),
     }
 }
 
-// No fault, or the one that is there.
-fn fault(least: Option<Broken>) -> Result<(), Broken>
-    ensures { told result ≡ least }
+// No fault, or the one at a place.
+fn fault(place: Option<usize>) -> Result<(), usize>
+    ensures { found result ≡ place }
 {
-    match least {
-        Some(broken) => Err(broken),
+    match place {
+        Some(at) => Err(at),
         None => Ok(()),
     }
 }
@@ -55,10 +59,9 @@ fn own_fault<L: Lattice>(
     scope: &Scope,
     val: &Valuation,
     context: u64,
-) -> Result<(), Broken>
+) -> Result<(), usize>
     requires { scope.now.depth < 64 }
-    ensures answer { found result ≡ own_fault (answers lattice.now) (plan_of plan.now) (scope_of scope.now) (val_of val.now) context (code_of (exprs_of script.now) (codes_of script.now) stmt) }
-    ensures why { Of (told result) (λ b. BreaksFirst (answers lattice.now) (plan_of plan.now) b (scope_of scope.now) (val_of val.now) context (code_of (exprs_of script.now) (codes_of script.now) stmt)) }
+    ensures { found result ≡ own_fault (L.answers lattice.now) (plan_of plan.now) (scope_of scope.now) (val_of val.now) context (code_of (exprs_of script.now) (codes_of script.now) stmt) }
 {
     match stmt {
         Stmt::Set {
@@ -67,8 +70,8 @@ fn own_fault<L: Lattice>(
             value,
             ..
         } => {
-            let flow = set_flow(lattice, plan, script, scope, context, level, value);
-            check_flow(lattice, place, flow, scope, val)
+            let allowed = set_flows(lattice, plan, script, scope, context, level, value);
+            flow(place, allowed)
         }
         Stmt::Add {
             place,
@@ -79,9 +82,8 @@ fn own_fault<L: Lattice>(
         } => {
             let vendor = val.whom(owner);
             let cells = values.as_slice();
-            check_add(
-                lattice, plan, script, scope, val, context, place, table, vendor, cells,
-            )
+            let allowed = add_flows(lattice, plan, script, scope, context, table, vendor, cells);
+            flow(place, allowed)
         }
         Stmt::Drop {
             place,
@@ -91,10 +93,10 @@ fn own_fault<L: Lattice>(
             ..
         } => {
             let vendor = val.whom(owner);
-            let flow = drop_flow(
+            let allowed = drop_flows(
                 lattice, plan, script, scope, context, table, vendor, condition,
             );
-            check_flow(lattice, place, flow, scope, val)
+            flow(place, allowed)
         }
         Stmt::Alter {
             place,
@@ -106,10 +108,10 @@ fn own_fault<L: Lattice>(
             ..
         } => {
             let vendor = val.whom(owner);
-            let flow = alter_flow(
+            let allowed = alter_flows(
                 lattice, plan, script, scope, context, table, vendor, column, value, condition,
             );
-            check_flow(lattice, place, flow, scope, val)
+            flow(place, allowed)
         }
         _ => Ok(()),
     }
@@ -137,11 +139,10 @@ fn judge_block<L: Lattice>(
     scope: &Scope,
     val: &Valuation,
     context: &mut Context,
-) -> Result<(), Broken>
+) -> Result<(), usize>
     requires { scope.now.depth + block ≤ 64 }
-    ensures answer { found result ≡ rules.verdict (answers lattice.now) (plan_of plan.now) (block_at (codes_of script.now) block) (scope_of scope.now) (val_of val.now) context.old.label }
+    ensures answer { found result ≡ rules.verdict (L.answers lattice.now) (plan_of plan.now) (block_at (codes_of script.now) block) (scope_of scope.now) (val_of val.now) context.old.label }
     ensures same { context.new.label ≡ context.old.label }
-    ensures why { Of (told result) (λ b. Breaks (answers lattice.now) (plan_of plan.now) b (block_at (codes_of script.now) block) (scope_of scope.now) (val_of val.now) context.old.label) }
 {
     let Some(stmt) = script.stmt(block) else {
         return Ok(());
@@ -209,11 +210,10 @@ fn judge_branches<L: Lattice>(
     scope: &Scope,
     val: &Valuation,
     context: &mut Context,
-) -> Result<(), Broken>
+) -> Result<(), usize>
     requires { (scope.now.depth + first ≤ 64) × (scope.now.depth + second ≤ 64) }
-    ensures answer { found result ≡ rules.earlier (rules.verdict (answers lattice.now) (plan_of plan.now) (block_at (codes_of script.now) first) (scope_of scope.now) (val_of val.now) (if_context (answers lattice.now) (plan_of plan.now) (scope_of scope.now) context.old.label (expr_at (exprs_of script.now) condition))) (rules.verdict (answers lattice.now) (plan_of plan.now) (block_at (codes_of script.now) second) (scope_of scope.now) (val_of val.now) (if_context (answers lattice.now) (plan_of plan.now) (scope_of scope.now) context.old.label (expr_at (exprs_of script.now) condition))) }
+    ensures answer { found result ≡ rules.earlier (rules.verdict (L.answers lattice.now) (plan_of plan.now) (block_at (codes_of script.now) first) (scope_of scope.now) (val_of val.now) (if_context (L.answers lattice.now) (plan_of plan.now) (scope_of scope.now) context.old.label (expr_at (exprs_of script.now) condition))) (rules.verdict (L.answers lattice.now) (plan_of plan.now) (block_at (codes_of script.now) second) (scope_of scope.now) (val_of val.now) (if_context (L.answers lattice.now) (plan_of plan.now) (scope_of scope.now) context.old.label (expr_at (exprs_of script.now) condition))) }
     ensures same { context.new.label ≡ context.old.label }
-    ensures why { Of (told result) (λ b. Breaks (answers lattice.now) (plan_of plan.now) b (block_at (codes_of script.now) first) (scope_of scope.now) (val_of val.now) (if_context (answers lattice.now) (plan_of plan.now) (scope_of scope.now) context.old.label (expr_at (exprs_of script.now) condition)) ⊎ Breaks (answers lattice.now) (plan_of plan.now) b (block_at (codes_of script.now) second) (scope_of scope.now) (val_of val.now) (if_context (answers lattice.now) (plan_of plan.now) (scope_of scope.now) context.old.label (expr_at (exprs_of script.now) condition))) }
 {
     let label = expr_label(lattice, plan, script, scope, condition);
     let raised = raise(lattice, context, label);
@@ -233,11 +233,10 @@ fn judge_rows<L: Lattice>(
     scope: &Scope,
     val: &Valuation,
     context: &mut Context,
-) -> Result<(), Broken>
+) -> Result<(), usize>
     requires { scope.now.depth + body < 64 }
-    ensures answer { found result ≡ rules.verdict (answers lattice.now) (plan_of plan.now) (block_at (codes_of script.now) body) (enter (scope_of scope.now) (cursor table vendor)) (val_of val.now) (each_context (answers lattice.now) (plan_of plan.now) context.old.label table vendor) }
+    ensures answer { found result ≡ rules.verdict (L.answers lattice.now) (plan_of plan.now) (block_at (codes_of script.now) body) (enter (scope_of scope.now) (cursor table vendor)) (val_of val.now) (each_context (L.answers lattice.now) (plan_of plan.now) context.old.label table vendor) }
     ensures same { context.new.label ≡ context.old.label }
-    ensures why { Of (told result) (λ b. Breaks (answers lattice.now) (plan_of plan.now) b (block_at (codes_of script.now) body) (enter (scope_of scope.now) (cursor table vendor)) (val_of val.now) (each_context (answers lattice.now) (plan_of plan.now) context.old.label table vendor)) }
 {
     let inner = scope.enter(Name::Cursor(table, vendor));
     let label = row_label(lattice, plan, table, vendor);
@@ -255,11 +254,10 @@ fn judge_turns<L: Lattice>(
     scope: &Scope,
     val: &Valuation,
     context: &mut Context,
-) -> Result<(), Broken>
+) -> Result<(), usize>
     requires { scope.now.depth + body < 64 }
-    ensures answer { found result ≡ rules.over (λ v. rules.verdict (answers lattice.now) (plan_of plan.now) (block_at (codes_of script.now) body) (enter (scope_of scope.now) index-name) (put_index (val_of val.now) (scope_of scope.now).depth v) context.old.label) (plan_of plan.now).vendors }
+    ensures answer { found result ≡ rules.over (λ v. rules.verdict (L.answers lattice.now) (plan_of plan.now) (block_at (codes_of script.now) body) (enter (scope_of scope.now) index-name) (put_index (val_of val.now) (scope_of scope.now).depth v) context.old.label) (plan_of plan.now).vendors }
     ensures same { context.new.label ≡ context.old.label }
-    ensures why { Of (told result) (λ b. ((v : ℕ) × (v < (plan_of plan.now).vendors) × Breaks (answers lattice.now) (plan_of plan.now) b (block_at (codes_of script.now) body) (enter (scope_of scope.now) index-name) (put_index (val_of val.now) (scope_of scope.now).depth v) context.old.label)) }
 {
     let inner = scope.enter(Name::Turn);
     let mut least = None;
@@ -280,10 +278,9 @@ pub fn judge_for<L: Lattice>(
     script: &Script,
     vendor: u32,
     context: &mut Context,
-) -> Result<(), Broken>
-    ensures answer { found result ≡ rules.verdict (answers lattice.now) (plan_of plan.now) (script_of script.now) no_names (run_for vendor) context.old.label }
+) -> Result<(), usize>
+    ensures answer { found result ≡ rules.verdict (L.answers lattice.now) (plan_of plan.now) (script_of script.now) no_names (run_for vendor) context.old.label }
     ensures same { context.new.label ≡ context.old.label }
-    ensures why { Of (told result) (λ b. Breaks (answers lattice.now) (plan_of plan.now) b (script_of script.now) no_names (run_for vendor) context.old.label) }
 {
     let first = script.first();
     if first > MOST_STATEMENTS {
@@ -293,11 +290,9 @@ pub fn judge_for<L: Lattice>(
     judge_block(lattice, plan, script, first, &Scope::new(), &val, context)
 }
 
-// Why a script is refused: the flow with the least place over every vendor that it may run for, with the context at the
-// bottom, and a valuation at which that flow is not allowed.
-pub fn explain<L: Lattice>(lattice: &L, plan: &Plan, script: &Script) -> Option<Broken>
-    ensures answer { place_in result ≡ rules.judge (answers lattice.now) (plan_of plan.now) (script_of script.now) }
-    ensures why { Of result (Explains (answers lattice.now) (plan_of plan.now) (script_of script.now)) }
+// The verdict on a script: the least place over every vendor that it may run for, with the context at the bottom.
+pub fn judge<L: Lattice>(lattice: &L, plan: &Plan, script: &Script) -> Option<usize>
+    ensures { result ≡ rules.judge (L.answers lattice.now) (plan_of plan.now) (script_of script.now) }
 {
     let mut context = Context {
         label: lattice.bottom(),
@@ -307,12 +302,4 @@ pub fn explain<L: Lattice>(lattice: &L, plan: &Plan, script: &Script) -> Option<
         least = least_of(least, judge_for(lattice, plan, script, me, &mut context));
     }
     least
-}
-
-// The verdict on a script: the place of the flow that it is refused for, or nothing.
-pub fn judge<L: Lattice>(lattice: &L, plan: &Plan, script: &Script) -> Option<usize>
-    ensures { result ≡ rules.judge (answers lattice.now) (plan_of plan.now) (script_of script.now) }
-{
-    let broken = explain(lattice, plan, script)?;
-    Some(broken.place)
 }

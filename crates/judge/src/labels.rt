@@ -44,7 +44,7 @@ fn column_family(plan: &Plan, table: u32, column: u32) -> u32
 
 // The label of the rows of a lot.
 pub(crate) fn row_label<L: Lattice>(lattice: &L, plan: &Plan, table: u32, vendor: u32) -> u64
-    ensures { result ≡ row_label (answers lattice.now) (plan_of plan.now) table vendor }
+    ensures { result ≡ row_label (L.answers lattice.now) (plan_of plan.now) table vendor }
 {
     lattice.tag(row_family(plan, table), vendor)
 }
@@ -57,7 +57,7 @@ pub(crate) fn cell_label<L: Lattice>(
     vendor: u32,
     column: u32,
 ) -> u64
-    ensures { result ≡ cell_label (answers lattice.now) (plan_of plan.now) table vendor column }
+    ensures { result ≡ cell_label (L.answers lattice.now) (plan_of plan.now) table vendor column }
 {
     let row = row_label(lattice, plan, table, vendor);
     let own = lattice.tag(column_family(plan, table, column), vendor);
@@ -66,7 +66,7 @@ pub(crate) fn cell_label<L: Lattice>(
 
 // The label of a variable; the top where the name is none.
 pub(crate) fn held_label<L: Lattice>(lattice: &L, name: Name) -> u64
-    ensures { result ≡ held_label (answers lattice.now) (name_of name) }
+    ensures { result ≡ held_label (L.answers lattice.now) (name_of name) }
 {
     match name {
         Name::Open => lattice.bottom(),
@@ -77,7 +77,7 @@ pub(crate) fn held_label<L: Lattice>(lattice: &L, name: Name) -> u64
 
 // The label of a column of the row that a cursor stands at; the top where the name is no cursor.
 pub(crate) fn column_label<L: Lattice>(lattice: &L, plan: &Plan, name: Name, column: u32) -> u64
-    ensures { result ≡ column_label (answers lattice.now) (plan_of plan.now) (name_of name) column }
+    ensures { result ≡ column_label (L.answers lattice.now) (plan_of plan.now) (name_of name) column }
 {
     match name {
         Name::Cursor(table, vendor) => cell_label(lattice, plan, table, vendor, column),
@@ -93,7 +93,7 @@ pub(crate) fn expr_label<L: Lattice>(
     scope: &Scope,
     at: usize,
 ) -> u64
-    ensures { result ≡ expr_label (answers lattice.now) (plan_of plan.now) (scope_of scope.now) (expr_at (exprs_of script.now) at) }
+    ensures { result ≡ expr_label (L.answers lattice.now) (plan_of plan.now) (scope_of scope.now) (expr_at (exprs_of script.now) at) }
 {
     match script.expr(at) {
         Expr::Literal(_) | Expr::Mine | Expr::OfIndex(_) => lattice.bottom(),

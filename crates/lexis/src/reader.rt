@@ -29,6 +29,13 @@ impl<'a> Reader<'a> {
         Reader { text, place: 0 }
     }
 
+    // Where reading goes on.
+    pub fn place(&self) -> usize
+        ensures { result ≡ place_of self.now }
+    {
+        self.place
+    }
+
     // The next token, which stays to be read.
     pub fn peek(&self) -> Result<Found<'a>, Refusal>
         ensures { reading result ≡ token_at (text_of self.now) (place_of self.now) }

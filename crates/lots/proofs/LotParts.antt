@@ -8,8 +8,9 @@ use Rattle.std.proofs.lemmas.Slice.{take-put_mid_below, drop-put_mid, between-pu
 use Rattle.rules.specs.Pairs.{Pair, laid, end, pair_at}
 use Rattle.rules.specs.Lots.{Lot}
 use Rattle.rules.proofs.PairRule.{laid_within, laid_apart}
+use Rattle.lots.specs.declared.row.Row.{Row}
 use Rattle.lots.specs.declared.lot.Lot as coded
-use Rattle.lots.specs.Rows.{Row, row_of, newest}
+use Rattle.lots.specs.Rows.{row_of, newest}
 use Rattle.lots.specs.Lots.{span_of, lot_in, none_over, orderly}
 
 -- The part of the slots that is lent, and the slots once it is given back.

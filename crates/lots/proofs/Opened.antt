@@ -6,7 +6,7 @@ use Rattle.rules.specs.Pairs.{Pair, laid}
 use Rattle.rules.specs.Lots.{Lot, no_rows}
 use Rattle.layout.specs.declared.pair.Pair as pair
 use Rattle.layout.specs.Pairs.{pair_of}
-use Rattle.lots.specs.Rows.{Row}
+use Rattle.lots.specs.declared.row.Row.{Row}
 use Rattle.lots.specs.declared.lot.Lot as coded
 use Rattle.lots.specs.Lots.{span_of, lot_in, none_over, orderly, fresh}
 

@@ -1,10 +1,17 @@
 -- Rows in slots: one more, some kept, all changed.
-use Rattle.std.proofs.Common.{◌≡◌, ℕ, ◌+◌, ◌<◌, ◌≤◌, Bool, true, false, cond, List, [], ◌∷◌, ◌++◌, map, reverse, length, take, drop, set, filter, sym, refl, ap, ◌∙◌, append-nil, arith, length-take}
+use Rattle.std.proofs.Common.{◌≡◌, ℕ, zero, suc, ◌+◌, ◌<◌, ◌≤◌, Bool, true, false, cond, List, [], ◌∷◌, ◌++◌, map, reverse, length, take, drop, set, filter, sym, refl, ap, ◌∙◌, append-nil, arith, length-take}
 use mathlib.Core.List.{reverse-cons}
 use lib.ListN.{length-map}
 use Rattle.std.proofs.lemmas.List.{take_more_set, map_push, reverse-append, take-map, take_at}
 use Rattle.std.proofs.lemmas.List.Elements.{filter-append}
-use Rattle.lots.specs.Rows.{Row, row_of, newest}
+use Rattle.lots.specs.declared.row.Row.{Row}
+use Rattle.lots.specs.Rows.{row_of, newest}
+
+pub take_of_set : {X : Type 0} (n : ℕ) (l : List X) (i : ℕ) (a : X) → take n (set l i a) ≡ set (take n l) i a
+take_of_set zero l i a = refl
+take_of_set (suc n) [] i a = refl
+take_of_set (suc n) (x ∷ xs) zero a = refl
+take_of_set (suc n) (x ∷ xs) (suc i) a = ap (λ ys. x ∷ ys) (take_of_set n xs i a)
 
 pub kept_map : {X Y : Type 0} (f : X → Y) (p : Y → Bool) (xs : List X) → map f (filter (λ x. p (f x)) xs) ≡ filter p (map f xs)
 kept_map f p [] = refl

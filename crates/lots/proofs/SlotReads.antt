@@ -5,9 +5,10 @@ use Rattle.std.proofs.lemmas.List.{get_or-map, get_or-take, get_or-drop, get_or-
 use Rattle.std.proofs.lemmas.Bool.{cases_lt}
 use Rattle.rules.specs.Pairs.{Pair, pair_at}
 use Rattle.rules.specs.Lots.{Lot, no_rows}
+use Rattle.lots.specs.declared.row.Row.{Row}
 use Rattle.lots.specs.declared.lot.Lot as coded
 use Rattle.lots.specs.declared.table.Table as stored
-use Rattle.lots.specs.Rows.{Row, row_of, RowAt}
+use Rattle.lots.specs.Rows.{row_of, RowAt}
 use Rattle.lots.specs.Lots.{lot_at}
 use Rattle.lots.specs.Tables.{lots_in, pairs_in, LotOf}
 use Rattle.lots.proofs.LotParts.{fits_at, held_at}

@@ -5,12 +5,13 @@ use Rattle.std.proofs.lemmas.Bool.{lt-ltb, le-ltb, cond-true, cond-false}
 use Rattle.std.proofs.lemmas.List.{map-set, get_or-map, get_or-take, take-take, length-reverse, set_past, set-get_or}
 use Rattle.rules.specs.Pairs.{Pair, pair_at}
 use Rattle.rules.specs.Lots.{Lot, no_rows, enter_row, last_word}
+use Rattle.lots.specs.declared.row.Row.{Row}
 use Rattle.lots.specs.declared.lot.Lot as coded
 use Rattle.lots.specs.declared.table.Table as stored
-use Rattle.lots.specs.Rows.{Row, row_of, newest}
+use Rattle.lots.specs.Rows.{row_of, newest}
 use Rattle.lots.specs.Lots.{span_of, lot_in, lot_at, orderly, OnlyIn}
 use Rattle.lots.specs.Tables.{lots_in, pairs_in, LotOf}
-use Rattle.inplace.proofs.Replaced.{take_of_set}
+use Rattle.lots.proofs.RowLists.{take_of_set}
 use Rattle.lots.proofs.LotParts.{part_of, with_part, orderly_set, spans_stay, written, outside_before, outside_behind}
 
 -- Where there is no such vendor, nothing is set.

@@ -6,11 +6,11 @@ use Rattle.std.proofs.lemmas.List.{map-set, get_or-map, get_or-take, get_or_past
 use Rattle.rules.specs.Pairs.{Pair, pair_at}
 use Rattle.rules.specs.Lots.{Lot, no_rows, put_lot, enter_row}
 use Rattle.lots.specs.declared.table.Table as stored
-use Rattle.lots.specs.Rows.{Row}
+use Rattle.lots.specs.declared.row.Row.{Row}
 use Rattle.lots.specs.Lots.{lot_at, OnlyIn}
 use Rattle.lots.specs.Tables.{lots_in, pairs_in, slots_in}
 use Rattle.lots.specs.Stores.{lots_at, room_in, has_lot, row_entered, OnlyInLot}
-use Rattle.inplace.proofs.Replaced.{take_of_set}
+use Rattle.lots.proofs.RowLists.{take_of_set}
 use Rattle.lots.proofs.Putting.{put_same, put_in, put_out, none_at}
 
 -- Where nothing is written, nothing is changed.

@@ -4,7 +4,8 @@ use Rattle.rules.specs.Pairs.{Pair, laid, end}
 use Rattle.rules.specs.Plans.{slots}
 use Rattle.rules.specs.Lots.{Lot, no_rows}
 use Rattle.layout.specs.declared.pair.Pair as pair
-use Rattle.lots.specs.Rows.{Row, newest}
+use Rattle.lots.specs.Rows.{newest}
+use Rattle.lots.specs.declared.row.Row.{Row}
 use Rattle.lots.specs.declared.lot.Lot as coded
 
 -- The slots of a lot, as a pair of offset and length.

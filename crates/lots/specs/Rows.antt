@@ -1,16 +1,11 @@
 -- What a row of the code stands for, and what the rows in some slots do.
 use Rattle.std.specs.Prelude.{◌≡◌, ℕ, ◌<◌, cond, List, [], map, reverse, length, take, ◌==◌, slice_index_or, slice_set}
 use Rattle.rules.specs.Lots.{Lot}
-use Rattle.inplace.specs.declared.array_vec.ArrayVec.{ArrayVec}
-use Rattle.inplace.specs.Held.{held}
-
--- A row of the code: a list of cells, held in place.
-abbrev pub Row : Type 0
-Row = ArrayVec ℕ 4
+use Rattle.lots.specs.declared.row.Row.{Row}
 
 -- The cells of a row.
 abbrev pub row_of : Row → List ℕ
-row_of r = held r
+row_of r = take r.width r.cells
 
 -- The rows in the first `count` slots, newest first: they lie there oldest first.
 abbrev pub newest : ℕ → List Row → List (List ℕ)

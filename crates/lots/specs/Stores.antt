@@ -5,7 +5,7 @@ use Rattle.rules.specs.Plans.{Plan}
 use Rattle.rules.specs.Lots.{Lot, Lots, no_rows, put_lot, enter_row}
 use Rattle.lots.specs.Lots.{lot_at, OnlyIn}
 use Rattle.lots.specs.Tables.{lots_in, pairs_in, slots_in}
-use Rattle.lots.specs.Rows.{Row}
+use Rattle.lots.specs.declared.row.Row.{Row}
 use Rattle.lots.specs.declared.table.Table as stored
 use Rattle.lots.specs.declared.store.Store as coded
 

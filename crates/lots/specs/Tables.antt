@@ -3,7 +3,7 @@ use Rattle.std.specs.Prelude.{◌≡◌, ℕ, ◌+◌, ◌<◌, ◌≤◌, List,
 use Rattle.rules.specs.Pairs.{Pair}
 use Rattle.rules.specs.Lots.{Lot}
 use Rattle.lots.specs.Lots.{lot_in, span_of}
-use Rattle.lots.specs.Rows.{Row}
+use Rattle.lots.specs.declared.row.Row.{Row}
 use Rattle.lots.specs.declared.lot.Lot as lot
 use Rattle.lots.specs.declared.table.Table as coded
 

@@ -1,7 +1,8 @@
 // The rows of a bench, in the slots of its tables: everything is held in place, so no call can want for memory.
 //
-// A `Row`, a list of cells, lies in a slot. A lot's part of the slots is lent to the functions of `part`, which write there;
-// a `Table` has the slots and the lots of one table, and a `Store` has the tables of a bench.
+// A `Row` lies in a slot. A lot's part of the slots is lent to the functions of `part`, which write there; a `Table` has
+// the slots and the lots of one table, and a `Store` has the tables of a bench.
+pub mod cells;
 pub mod looking;
 pub mod lot;
 pub mod opening;

@@ -63,7 +63,7 @@ impl Store {
         ensures { result ≡ slice_index (slice_index_or (lots_of self.now table vendor).rows place []) column }
     {
         match self.row_at(table, vendor, place) {
-            Some(row) => row.get_or(column, 0),
+            Some(row) => row.cell(column),
             None => 0,
         }
     }

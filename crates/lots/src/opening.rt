@@ -8,9 +8,9 @@ ghost use Rattle.lots.specs.Tables.{lots_in, pairs_in};
 ghost use Rattle.lots.specs.Stores.{lots_of, pairs_of, plan_pairs};
 
 use crate::lot::Lot;
+use crate::row::Row;
 use crate::store::Store;
 use crate::table::Table;
-use inplace::ArrayVec;
 use layout::{Pair, Plan};
 
 impl Table {
@@ -36,7 +36,7 @@ impl Table {
             };
             vendors += 1;
         }
-        let blank = ArrayVec::new(0);
+        let blank = Row::new();
         Table {
             slots: [blank; 256],
             lots,

@@ -17,7 +17,7 @@ pub(crate) fn add(part: &mut [Row], count: usize, row: Row)
 // Drops the rows whose condition is not 0: the others move up in their order. Answers how many are left.
 pub(crate) fn drop_by<R: Reading>(part: &mut [Row], count: usize, condition: &R) -> usize
     requires { count ≤ length part.old }
-    ensures rows { newest result part.new ≡ (drop_rows (reads condition.now) (part_lot count part.old)).rows }
+    ensures rows { newest result part.new ≡ (drop_rows (R.reads condition.now) (part_lot count part.old)).rows }
     ensures few { result ≤ count }
 {
     let mut left = 0;
@@ -33,7 +33,7 @@ pub(crate) fn drop_by<R: Reading>(part: &mut [Row], count: usize, condition: &R)
 
 // A row after an alteration: the column is set, from the cells as they were, where the condition is not 0.
 fn altered<V: Reading, C: Reading>(row: &Row, column: usize, value: &V, condition: &C) -> Row
-    ensures { row_of result ≡ changed column (V.Reading.reads value.now) (C.Reading.reads condition.now) (row_of row.now) }
+    ensures { row_of result ≡ changed column (V.reads value.now) (C.reads condition.now) (row_of row.now) }
 {
     if condition.value(row) == 0 {
         return *row;
@@ -50,7 +50,7 @@ pub(crate) fn alter_by<V: Reading, C: Reading>(
     condition: &C,
 )
     requires { count ≤ length part.old }
-    ensures { newest count part.new ≡ (alter_rows column (V.Reading.reads value.now) (C.Reading.reads condition.now) (part_lot count part.old)).rows }
+    ensures { newest count part.new ≡ (alter_rows column (V.reads value.now) (C.reads condition.now) (part_lot count part.old)).rows }
 {
     for i in 0..count {
         let row = part[i];

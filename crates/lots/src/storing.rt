@@ -26,7 +26,7 @@ impl Store {
 
     // Drops the rows of a lot whose condition is not 0; the others keep their order.
     pub fn drop_rows<R: Reading>(&mut self, table: usize, vendor: usize, condition: &R)
-        ensures lots { lots_of self.new ≡ put_lot (lots_of self.old) table vendor (drop_rows (reads condition.now) (lots_of self.old table vendor)) }
+        ensures lots { lots_of self.new ≡ put_lot (lots_of self.old) table vendor (drop_rows (R.reads condition.now) (lots_of self.old table vendor)) }
         ensures pairs { pairs_of self.new ≡ pairs_of self.old }
         ensures outside { OnlyInLot (pairs_of self.old) table vendor (slots_of self.old) (slots_of self.new) }
     {
@@ -46,7 +46,7 @@ impl Store {
         value: &V,
         condition: &C,
     )
-        ensures lots { lots_of self.new ≡ put_lot (lots_of self.old) table vendor (alter_rows column (V.Reading.reads value.now) (C.Reading.reads condition.now) (lots_of self.old table vendor)) }
+        ensures lots { lots_of self.new ≡ put_lot (lots_of self.old) table vendor (alter_rows column (V.reads value.now) (C.reads condition.now) (lots_of self.old table vendor)) }
         ensures pairs { pairs_of self.new ≡ pairs_of self.old }
         ensures outside { OnlyInLot (pairs_of self.old) table vendor (slots_of self.old) (slots_of self.new) }
     {

@@ -40,7 +40,7 @@ impl Table {
 
     // Drops the rows of a lot whose condition is not 0.
     pub(crate) fn drop_rows<R: Reading>(&mut self, vendor: usize, condition: &R)
-        ensures lots { lots_in self.new ≡ slice_set (lots_in self.old) vendor (drop_rows (reads condition.now) (lot_at (lots_in self.old) vendor)) }
+        ensures lots { lots_in self.new ≡ slice_set (lots_in self.old) vendor (drop_rows (R.reads condition.now) (lot_at (lots_in self.old) vendor)) }
         ensures pairs { pairs_in self.new ≡ pairs_in self.old }
         ensures outside { OnlyIn (pair_at (pairs_in self.old) vendor) self.old.slots self.new.slots }
     {
@@ -62,7 +62,7 @@ impl Table {
         value: &V,
         condition: &C,
     )
-        ensures lots { lots_in self.new ≡ slice_set (lots_in self.old) vendor (alter_rows column (V.Reading.reads value.now) (C.Reading.reads condition.now) (lot_at (lots_in self.old) vendor)) }
+        ensures lots { lots_in self.new ≡ slice_set (lots_in self.old) vendor (alter_rows column (V.reads value.now) (C.reads condition.now) (lot_at (lots_in self.old) vendor)) }
         ensures pairs { pairs_in self.new ≡ pairs_in self.old }
         ensures outside { OnlyIn (pair_at (pairs_in self.old) vendor) self.old.slots self.new.slots }
     {

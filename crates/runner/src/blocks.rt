@@ -11,7 +11,6 @@ use crate::env::Env;
 use crate::evaluate::evaluate;
 use crate::flat::{add_row, alter_rows, begin, drop_rows, row_of, set_var};
 use crate::locals::Locals;
-use inplace::ArrayVec;
 use lots::{Row, Store};
 use script::{Script, Stmt};
 
@@ -28,7 +27,7 @@ fn row_in(lots: &Store, table: usize, vendor: usize, place: usize) -> Row
 {
     match lots.row_at(table, vendor, place) {
         Some(row) => row,
-        None => ArrayVec::new(0),
+        None => Row::new(),
     }
 }
 

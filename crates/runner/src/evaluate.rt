@@ -37,7 +37,7 @@ pub(crate) fn evaluate(script: &Script, env: &Env, locals: &Locals, at: usize) -
         Expr::Mine => env.mine,
         Expr::OfIndex(level) => env.index(level),
         Expr::Variable(level) => locals.var(level),
-        Expr::Cell(level, column) => env.cursor(level).get_or(column as usize, 0),
+        Expr::Cell(level, column) => env.cursor(level).cell(column as usize),
         Expr::Apply(op, left, right) => {
             let first = evaluate(script, env, locals, left);
             let second = evaluate(script, env, locals, right);

@@ -38,7 +38,7 @@ pub(crate) fn set_var(locals: &mut Locals, level: usize, value: u32)
 pub(crate) fn row_of(script: &Script, env: &Env, locals: &Locals, values: ArrayVec<usize, 4>) -> Row
     ensures { row_of result ≡ map (λ at. eval (val_of env.now) (cursors_of env.now) (vars_of locals.now) (expr_at (exprs_of script.now) at)) (held values) }
 {
-    let mut row = ArrayVec::new(0);
+    let mut row = Row::new();
     let places = values.as_slice();
     for at in places {
         let _ = row.push(evaluate(script, env, locals, *at));

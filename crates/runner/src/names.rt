@@ -8,7 +8,6 @@ ghost use Rattle.runner.specs.Names.{val_of, cursors_of, vars_of, Nameless, Rena
 
 use crate::env::Env;
 use crate::locals::Locals;
-use inplace::ArrayVec;
 use lots::Row;
 use script::Index;
 
@@ -19,7 +18,7 @@ impl Env {
     pub(crate) fn new(mine: u32, vendors: u32) -> Env
         ensures { Nameless result mine vendors }
     {
-        let blank = ArrayVec::new(0);
+        let blank = Row::new();
         Env {
             mine,
             vendors,
@@ -44,7 +43,7 @@ impl Env {
         ensures { row_of result ≡ cursors_of self.now level }
     {
         if level >= MOST_NAMES {
-            return ArrayVec::new(0);
+            return Row::new();
         }
         self.cursors[level]
     }

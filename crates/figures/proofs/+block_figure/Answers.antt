@@ -6,9 +6,9 @@ use Rattle.script.specs.Nodes.{block_at, code_of}
 use Rattle.figures.proofs.Steps.{figure_of_stmt, turns_figure}
 use Rattle.figures.proofs.+block_figure.Goals as goal
 
-pub returns-in-default : goal.returns-in-default
+pub returns-in_default : goal.returns-in_default
 unfolding figure
-returns-in-default t c = let e = ap (figure (plan_of c.args.plan.now)) c.in-default.ensures.meaning in omega (arith, e)
+returns-in_default t c = let e = ap (figure (plan_of c.args.plan.now)) c.in_default.ensures.meaning in omega (arith, e)
 
 pub returns-in-Var : goal.returns-in-Var
 unfolding figure
@@ -43,14 +43,14 @@ unfolding figure
 returns-in-Vendors t c =
     let s = c.args.script.now in
     let e = figure_of_stmt (plan_of c.args.plan.now) (exprs_of s) (codes_of s) (block_at (codes_of s) c.args.block) _ _ c.in-Some.ensures.meaning c.in-Vendors.is in
-    turns_figure 1000001 c.turning.result _ _ _ _ _ _ c.turning.ensures c.vendors.ensures c.block-figure-turn.ensures c.block-figure-in-Vendors.ensures ∙ ap (λ n. min n 1000001) (sym e)
+    turns_figure 1000001 c.turning.result _ _ _ _ _ _ c.turning.ensures c.vendors.ensures c.block_figure-turn.ensures c.block_figure-in-Vendors.ensures ∙ ap (λ n. min n 1000001) (sym e)
 
 pub returns-in-Each : goal.returns-in-Each
 unfolding figure
 returns-in-Each t c =
     let s = c.args.script.now in
     let e = figure_of_stmt (plan_of c.args.plan.now) (exprs_of s) (codes_of s) (block_at (codes_of s) c.args.block) _ _ c.in-Some.ensures.meaning c.in-Each.is in
-    turns_figure 1000001 c.turning-in-Each.result _ _ _ _ _ _ c.turning-in-Each.ensures c.longest-lot-most.ensures c.block-figure-row.ensures c.block-figure-in-Each.ensures ∙ ap (λ n. min n 1000001) (sym e)
+    turns_figure 1000001 c.turning-in-Each.result _ _ _ _ _ _ c.turning-in-Each.ensures c.longest_lot-most.ensures c.block_figure-row.ensures c.block_figure-in-Each.ensures ∙ ap (λ n. min n 1000001) (sym e)
 
 pub returns-in-Add : goal.returns-in-Add
 unfolding figure

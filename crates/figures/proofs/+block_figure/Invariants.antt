@@ -1,4 +1,4 @@
 use Rattle.figures.proofs.+block_figure.Given as goal
 
-abbrev pub decreases-block-figure : goal.decreases-block-figure
-decreases-block-figure l = l.block
+abbrev pub decreases-block_figure : goal.decreases-block_figure
+decreases-block_figure l = l.block

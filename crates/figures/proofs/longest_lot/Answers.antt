@@ -20,6 +20,6 @@ pub returns : goal.returns
 returns c =
     let ts = c.tables-tables.result.now in
     let t = c.args.table in
-    c.longest-pair.ensures ∙ ap longest_of c.lots.ensures
+    c.longest_pair.ensures ∙ ap longest_of c.lots.ensures
     ∙ sym (ap (λ xs. longest_of (get_or xs t none).lots) (sym c.tables-tables.ensures)
     ∙ ap (λ x. longest_of x.lots) (table_read ts t c.index-tables-at.result none c.if-at-tables.false c.index-tables-at.is))

@@ -8,14 +8,12 @@ use Rattle.rules.proofs.Turns.{over_more}
 use Rattle.script.specs.Nodes.{block_at, code_of}
 use Rattle.script.specs.Meaning.{exprs_of, codes_of}
 use Rattle.judge.specs.Names.{scope_of, val_of}
-use Rattle.judge.specs.Verdicts.{told, place_in, found}
-use Rattle.judge.proofs.Said.{weaken, passed, said_up, said_as, said_either}
-use Rattle.judge.proofs.Breaches.{moved, own_breaks, var_rest, set_rest, add_rest, drop_rest, alter_rest, if_blocks, if_rest, when_block, when_rest, vendors_block, vendors_rest, each_block, each_rest}
+use Rattle.judge.specs.Verdicts.{found}
 use Rattle.judge.proofs.Steps.{stops, goes_on, behind, own_split, at_end, if_split, when_split, vendors_split, each_split}
 use Rattle.judge.proofs.judging.+judge_block_judge_branches_judge_rows_judge_turns.Goals as goal
 
-pub judge-block-returns-in-default : goal.judge-block-returns-in-default
-judge-block-returns-in-default g t c =
+pub judge_block-returns-in_default : goal.judge_block-returns-in_default
+judge_block-returns-in_default g t c =
     let o = g.L.Lattice.answers c.args.lattice.now in
     let p = plan_of c.args.plan.now in
     let es = exprs_of c.args.script.now in
@@ -23,10 +21,10 @@ judge-block-returns-in-default g t c =
     let s = scope_of c.args.scope.now in
     let v = val_of c.args.val.now in
     let l = c.args.context.now.label in
-    record { answer = at_end o p s v l _ c.in-default.ensures.meaning; same = refl; why = tt }
+    record { answer = at_end o p s v l _ c.in_default.ensures.meaning; same = refl }
 
-pub judge-block-returns-in-err-own-fault : goal.judge-block-returns-in-err-own-fault
-judge-block-returns-in-err-own-fault g t c =
+pub judge_block-returns-in_err-own_fault : goal.judge_block-returns-in_err-own_fault
+judge_block-returns-in_err-own_fault g t c =
     let o = g.L.Lattice.answers c.args.lattice.now in
     let p = plan_of c.args.plan.now in
     let es = exprs_of c.args.script.now in
@@ -35,13 +33,12 @@ judge-block-returns-in-err-own-fault g t c =
     let v = val_of c.args.val.now in
     let l = c.args.context.now.label in
     let n = c.in-Some.stmt in
-    let is = c.in-Some.ensures.meaning in
-    let e = own_split o p s v l _ _ is in
-    let q = err_from_is_err_and c.from-residual.result c.from-residual.ensures.1 in
-    record { answer = stops e c.own_fault.ensures.answer c.in-err-own-fault.was q.1 q.2; same = refl; why = said_up (passed c.in-err-own-fault.was q.1 q.2) (own_breaks o p s v l es cs _ n is) c.own_fault.ensures.why }
+    let e = own_split o p s v l _ _ c.in-Some.ensures.meaning in
+    let q = err_from_is_err_and c.from_residual.result c.from_residual.ensures.1 in
+    record { answer = stops e c.own_fault.ensures c.in_err-own_fault.was q.1 q.2; same = refl }
 
-pub judge-block-returns-in-Var : goal.judge-block-returns-in-Var
-judge-block-returns-in-Var g t c =
+pub judge_block-returns-in-Var : goal.judge_block-returns-in-Var
+judge_block-returns-in-Var g t c =
     let o = g.L.Lattice.answers c.args.lattice.now in
     let p = plan_of c.args.plan.now in
     let es = exprs_of c.args.script.now in
@@ -50,18 +47,16 @@ judge-block-returns-in-Var g t c =
     let v = val_of c.args.val.now in
     let l = c.args.context.now.label in
     let n = c.in-Some.stmt in
-    let is = c.in-Some.ensures.meaning in
-    let e = own_split o p s v l _ _ is in
+    let e = own_split o p s v l _ _ c.in-Some.ensures.meaning in
     let x = c.in-Var in
     record {
-      answer = goes_on c.judge-block.result e c.own_fault.ensures.answer c.in-ok-own-fault.was
-          (c.judge-block.ensures.answer ∙ ap (λ z. verdict o p (block_at cs x.rest) z v l) (c.enter-inner.ensures.model ∙ ap (enter s) c.marked.ensures) ∙ sym (ap (λ k. behind o p s v l (code_of es cs k)) x.is));
-      same = c.judge-block.ensures.same;
-      why = weaken (told c.judge-block.result) (λ b said. var_rest o p s v l es cs _ n is x.mark x.rest x.is b (moved o p (block_at cs x.rest) b (c.enter-inner.ensures.model ∙ ap (enter s) c.marked.ensures) refl refl said)) c.judge-block.ensures.why;
+      answer = goes_on c.judge_block.result e c.own_fault.ensures c.in_ok-own_fault.was
+          (c.judge_block.ensures.answer ∙ ap (λ z. verdict o p (block_at cs x.rest) z v l) (c.enter-inner.ensures.model ∙ ap (enter s) c.marked.ensures) ∙ sym (ap (λ k. behind o p s v l (code_of es cs k)) x.is));
+      same = c.judge_block.ensures.same;
     }
 
-pub judge-block-returns-in-Set : goal.judge-block-returns-in-Set
-judge-block-returns-in-Set g t c =
+pub judge_block-returns-in-Set : goal.judge_block-returns-in-Set
+judge_block-returns-in-Set g t c =
     let o = g.L.Lattice.answers c.args.lattice.now in
     let p = plan_of c.args.plan.now in
     let es = exprs_of c.args.script.now in
@@ -70,17 +65,15 @@ judge-block-returns-in-Set g t c =
     let v = val_of c.args.val.now in
     let l = c.args.context.now.label in
     let n = c.in-Some.stmt in
-    let is = c.in-Some.ensures.meaning in
-    let e = own_split o p s v l _ _ is in
+    let e = own_split o p s v l _ _ c.in-Some.ensures.meaning in
     record {
-      answer = goes_on c.judge-block-in-Set.result e c.own_fault.ensures.answer c.in-ok-own-fault.was
-          (c.judge-block-in-Set.ensures.answer ∙ sym (ap (λ k. behind o p s v l (code_of es cs k)) c.in-Set.is));
-      same = c.judge-block-in-Set.ensures.same;
-      why = weaken (told c.judge-block-in-Set.result) (set_rest o p s v l es cs _ n is _ _ _ _ c.in-Set.is) c.judge-block-in-Set.ensures.why;
+      answer = goes_on c.judge_block-in-Set.result e c.own_fault.ensures c.in_ok-own_fault.was
+          (c.judge_block-in-Set.ensures.answer ∙ sym (ap (λ k. behind o p s v l (code_of es cs k)) c.in-Set.is));
+      same = c.judge_block-in-Set.ensures.same;
     }
 
-pub judge-block-returns-in-Add : goal.judge-block-returns-in-Add
-judge-block-returns-in-Add g t c =
+pub judge_block-returns-in-Add : goal.judge_block-returns-in-Add
+judge_block-returns-in-Add g t c =
     let o = g.L.Lattice.answers c.args.lattice.now in
     let p = plan_of c.args.plan.now in
     let es = exprs_of c.args.script.now in
@@ -89,17 +82,15 @@ judge-block-returns-in-Add g t c =
     let v = val_of c.args.val.now in
     let l = c.args.context.now.label in
     let n = c.in-Some.stmt in
-    let is = c.in-Some.ensures.meaning in
-    let e = own_split o p s v l _ _ is in
+    let e = own_split o p s v l _ _ c.in-Some.ensures.meaning in
     record {
-      answer = goes_on c.judge-block-in-Add.result e c.own_fault.ensures.answer c.in-ok-own-fault.was
-          (c.judge-block-in-Add.ensures.answer ∙ sym (ap (λ k. behind o p s v l (code_of es cs k)) c.in-Add.is));
-      same = c.judge-block-in-Add.ensures.same;
-      why = weaken (told c.judge-block-in-Add.result) (add_rest o p s v l es cs _ n is _ _ _ _ _ c.in-Add.is) c.judge-block-in-Add.ensures.why;
+      answer = goes_on c.judge_block-in-Add.result e c.own_fault.ensures c.in_ok-own_fault.was
+          (c.judge_block-in-Add.ensures.answer ∙ sym (ap (λ k. behind o p s v l (code_of es cs k)) c.in-Add.is));
+      same = c.judge_block-in-Add.ensures.same;
     }
 
-pub judge-block-returns-in-Drop : goal.judge-block-returns-in-Drop
-judge-block-returns-in-Drop g t c =
+pub judge_block-returns-in-Drop : goal.judge_block-returns-in-Drop
+judge_block-returns-in-Drop g t c =
     let o = g.L.Lattice.answers c.args.lattice.now in
     let p = plan_of c.args.plan.now in
     let es = exprs_of c.args.script.now in
@@ -108,17 +99,15 @@ judge-block-returns-in-Drop g t c =
     let v = val_of c.args.val.now in
     let l = c.args.context.now.label in
     let n = c.in-Some.stmt in
-    let is = c.in-Some.ensures.meaning in
-    let e = own_split o p s v l _ _ is in
+    let e = own_split o p s v l _ _ c.in-Some.ensures.meaning in
     record {
-      answer = goes_on c.judge-block-in-Drop.result e c.own_fault.ensures.answer c.in-ok-own-fault.was
-          (c.judge-block-in-Drop.ensures.answer ∙ sym (ap (λ k. behind o p s v l (code_of es cs k)) c.in-Drop.is));
-      same = c.judge-block-in-Drop.ensures.same;
-      why = weaken (told c.judge-block-in-Drop.result) (drop_rest o p s v l es cs _ n is _ _ _ _ _ c.in-Drop.is) c.judge-block-in-Drop.ensures.why;
+      answer = goes_on c.judge_block-in-Drop.result e c.own_fault.ensures c.in_ok-own_fault.was
+          (c.judge_block-in-Drop.ensures.answer ∙ sym (ap (λ k. behind o p s v l (code_of es cs k)) c.in-Drop.is));
+      same = c.judge_block-in-Drop.ensures.same;
     }
 
-pub judge-block-returns-in-Alter : goal.judge-block-returns-in-Alter
-judge-block-returns-in-Alter g t c =
+pub judge_block-returns-in-Alter : goal.judge_block-returns-in-Alter
+judge_block-returns-in-Alter g t c =
     let o = g.L.Lattice.answers c.args.lattice.now in
     let p = plan_of c.args.plan.now in
     let es = exprs_of c.args.script.now in
@@ -127,17 +116,15 @@ judge-block-returns-in-Alter g t c =
     let v = val_of c.args.val.now in
     let l = c.args.context.now.label in
     let n = c.in-Some.stmt in
-    let is = c.in-Some.ensures.meaning in
-    let e = own_split o p s v l _ _ is in
+    let e = own_split o p s v l _ _ c.in-Some.ensures.meaning in
     record {
-      answer = goes_on c.judge-block-in-Alter.result e c.own_fault.ensures.answer c.in-ok-own-fault.was
-          (c.judge-block-in-Alter.ensures.answer ∙ sym (ap (λ k. behind o p s v l (code_of es cs k)) c.in-Alter.is));
-      same = c.judge-block-in-Alter.ensures.same;
-      why = weaken (told c.judge-block-in-Alter.result) (alter_rest o p s v l es cs _ n is _ _ _ _ _ _ _ c.in-Alter.is) c.judge-block-in-Alter.ensures.why;
+      answer = goes_on c.judge_block-in-Alter.result e c.own_fault.ensures c.in_ok-own_fault.was
+          (c.judge_block-in-Alter.ensures.answer ∙ sym (ap (λ k. behind o p s v l (code_of es cs k)) c.in-Alter.is));
+      same = c.judge_block-in-Alter.ensures.same;
     }
 
-pub judge-block-returns-in-err-judge-branches : goal.judge-block-returns-in-err-judge-branches
-judge-block-returns-in-err-judge-branches g t c =
+pub judge_block-returns-in_err-judge_branches-in-If : goal.judge_block-returns-in_err-judge_branches-in-If
+judge_block-returns-in_err-judge_branches-in-If g t c =
     let o = g.L.Lattice.answers c.args.lattice.now in
     let p = plan_of c.args.plan.now in
     let es = exprs_of c.args.script.now in
@@ -146,20 +133,18 @@ judge-block-returns-in-err-judge-branches g t c =
     let v = val_of c.args.val.now in
     let l = c.args.context.now.label in
     let n = c.in-Some.stmt in
-    let is = c.in-Some.ensures.meaning in
-    let e = own_split o p s v l _ _ is in
+    let e = own_split o p s v l _ _ c.in-Some.ensures.meaning in
     let x = c.in-If in
     let f = if_split o p s v l es cs n x.condition x.first x.second x.rest x.is in
-    let q = err_from_is_err_and c.from-residual-in-err-judge-branches.result c.from-residual-in-err-judge-branches.ensures.1 in
+    let q = err_from_is_err_and c.from_residual-in_err-judge_branches.result c.from_residual-in_err-judge_branches.ensures.1 in
     record {
-      answer = goes_on c.from-residual-in-err-judge-branches.result e c.own_fault.ensures.answer c.in-ok-own-fault.was
-          (stops f c.judge-branches.ensures.answer c.in-err-judge-branches.was q.1 q.2);
-      same = c.judge-branches.ensures.same;
-      why = said_up (passed c.in-err-judge-branches.was q.1 q.2) (if_blocks o p s v l es cs _ n is x.condition x.first x.second x.rest x.is) c.judge-branches.ensures.why;
+      answer = goes_on c.from_residual-in_err-judge_branches.result e c.own_fault.ensures c.in_ok-own_fault.was
+          (stops f c.judge_branches.ensures.answer c.in_err-judge_branches.was q.1 q.2);
+      same = c.judge_branches.ensures.same;
     }
 
-pub judge-block-returns-in-ok-judge-branches : goal.judge-block-returns-in-ok-judge-branches
-judge-block-returns-in-ok-judge-branches g t c =
+pub judge_block-returns-in_ok-judge_branches-in-If : goal.judge_block-returns-in_ok-judge_branches-in-If
+judge_block-returns-in_ok-judge_branches-in-If g t c =
     let o = g.L.Lattice.answers c.args.lattice.now in
     let p = plan_of c.args.plan.now in
     let es = exprs_of c.args.script.now in
@@ -168,19 +153,17 @@ judge-block-returns-in-ok-judge-branches g t c =
     let v = val_of c.args.val.now in
     let l = c.args.context.now.label in
     let n = c.in-Some.stmt in
-    let is = c.in-Some.ensures.meaning in
-    let e = own_split o p s v l _ _ is in
+    let e = own_split o p s v l _ _ c.in-Some.ensures.meaning in
     let x = c.in-If in
     let f = if_split o p s v l es cs n x.condition x.first x.second x.rest x.is in
     record {
-      answer = goes_on c.judge-block-in-If.result e c.own_fault.ensures.answer c.in-ok-own-fault.was
-          (goes_on c.judge-block-in-If.result f c.judge-branches.ensures.answer c.in-ok-judge-branches.was (c.judge-block-in-If.ensures.answer ∙ ap (verdict o p (block_at cs x.rest) s v) c.judge-branches.ensures.same));
-      same = c.judge-block-in-If.ensures.same ∙ c.judge-branches.ensures.same;
-      why = weaken (told c.judge-block-in-If.result) (λ b said. if_rest o p s v l es cs _ n is x.condition x.first x.second x.rest x.is b (moved o p (block_at cs x.rest) b refl refl c.judge-branches.ensures.same said)) c.judge-block-in-If.ensures.why;
+      answer = goes_on c.judge_block-in-If.result e c.own_fault.ensures c.in_ok-own_fault.was
+          (goes_on c.judge_block-in-If.result f c.judge_branches.ensures.answer c.in_ok-judge_branches.was (c.judge_block-in-If.ensures.answer ∙ ap (verdict o p (block_at cs x.rest) s v) c.judge_branches.ensures.same));
+      same = c.judge_block-in-If.ensures.same ∙ c.judge_branches.ensures.same;
     }
 
-pub judge-block-returns-in-err-judge-block : goal.judge-block-returns-in-err-judge-block
-judge-block-returns-in-err-judge-block g t c =
+pub judge_block-returns-in_err-judge_block-in-When : goal.judge_block-returns-in_err-judge_block-in-When
+judge_block-returns-in_err-judge_block-in-When g t c =
     let o = g.L.Lattice.answers c.args.lattice.now in
     let p = plan_of c.args.plan.now in
     let es = exprs_of c.args.script.now in
@@ -189,20 +172,18 @@ judge-block-returns-in-err-judge-block g t c =
     let v = val_of c.args.val.now in
     let l = c.args.context.now.label in
     let n = c.in-Some.stmt in
-    let is = c.in-Some.ensures.meaning in
-    let e = own_split o p s v l _ _ is in
+    let e = own_split o p s v l _ _ c.in-Some.ensures.meaning in
     let x = c.in-When in
     let f = when_split o p s v l es cs n x.left x.right x.first x.second x.rest c.chosen-body.result x.is c.chosen-body.ensures in
-    let q = err_from_is_err_and c.from-residual-in-err-judge-block.result c.from-residual-in-err-judge-block.ensures.1 in
+    let q = err_from_is_err_and c.from_residual-in_err-judge_block.result c.from_residual-in_err-judge_block.ensures.1 in
     record {
-      answer = goes_on c.from-residual-in-err-judge-block.result e c.own_fault.ensures.answer c.in-ok-own-fault.was
-          (stops f c.judge-block-in-When.ensures.answer c.in-err-judge-block.was q.1 q.2);
-      same = c.judge-block-in-When.ensures.same;
-      why = said_up (passed c.in-err-judge-block.was q.1 q.2) (λ b. when_block o p s v l es cs _ n is x.left x.right x.first x.second x.rest x.is b c.chosen-body.result c.chosen-body.ensures) c.judge-block-in-When.ensures.why;
+      answer = goes_on c.from_residual-in_err-judge_block.result e c.own_fault.ensures c.in_ok-own_fault.was
+          (stops f c.judge_block-in-When.ensures.answer c.in_err-judge_block.was q.1 q.2);
+      same = c.judge_block-in-When.ensures.same;
     }
 
-pub judge-block-returns-in-ok-judge-block : goal.judge-block-returns-in-ok-judge-block
-judge-block-returns-in-ok-judge-block g t c =
+pub judge_block-returns-in_ok-judge_block-in-When : goal.judge_block-returns-in_ok-judge_block-in-When
+judge_block-returns-in_ok-judge_block-in-When g t c =
     let o = g.L.Lattice.answers c.args.lattice.now in
     let p = plan_of c.args.plan.now in
     let es = exprs_of c.args.script.now in
@@ -211,19 +192,17 @@ judge-block-returns-in-ok-judge-block g t c =
     let v = val_of c.args.val.now in
     let l = c.args.context.now.label in
     let n = c.in-Some.stmt in
-    let is = c.in-Some.ensures.meaning in
-    let e = own_split o p s v l _ _ is in
+    let e = own_split o p s v l _ _ c.in-Some.ensures.meaning in
     let x = c.in-When in
     let f = when_split o p s v l es cs n x.left x.right x.first x.second x.rest c.chosen-body.result x.is c.chosen-body.ensures in
     record {
-      answer = goes_on c.judge-block-in-When-2.result e c.own_fault.ensures.answer c.in-ok-own-fault.was
-          (goes_on c.judge-block-in-When-2.result f c.judge-block-in-When.ensures.answer c.in-ok-judge-block.was (c.judge-block-in-When-2.ensures.answer ∙ ap (verdict o p (block_at cs x.rest) s v) c.judge-block-in-When.ensures.same));
-      same = c.judge-block-in-When-2.ensures.same ∙ c.judge-block-in-When.ensures.same;
-      why = weaken (told c.judge-block-in-When-2.result) (λ b said. when_rest o p s v l es cs _ n is x.left x.right x.first x.second x.rest x.is b (moved o p (block_at cs x.rest) b refl refl c.judge-block-in-When.ensures.same said)) c.judge-block-in-When-2.ensures.why;
+      answer = goes_on c.judge_block-in-When-2.result e c.own_fault.ensures c.in_ok-own_fault.was
+          (goes_on c.judge_block-in-When-2.result f c.judge_block-in-When.ensures.answer c.in_ok-judge_block.was (c.judge_block-in-When-2.ensures.answer ∙ ap (verdict o p (block_at cs x.rest) s v) c.judge_block-in-When.ensures.same));
+      same = c.judge_block-in-When-2.ensures.same ∙ c.judge_block-in-When.ensures.same;
     }
 
-pub judge-block-returns-in-err-judge-turns : goal.judge-block-returns-in-err-judge-turns
-judge-block-returns-in-err-judge-turns g t c =
+pub judge_block-returns-in_err-judge_turns-in-Vendors : goal.judge_block-returns-in_err-judge_turns-in-Vendors
+judge_block-returns-in_err-judge_turns-in-Vendors g t c =
     let o = g.L.Lattice.answers c.args.lattice.now in
     let p = plan_of c.args.plan.now in
     let es = exprs_of c.args.script.now in
@@ -232,20 +211,18 @@ judge-block-returns-in-err-judge-turns g t c =
     let v = val_of c.args.val.now in
     let l = c.args.context.now.label in
     let n = c.in-Some.stmt in
-    let is = c.in-Some.ensures.meaning in
-    let e = own_split o p s v l _ _ is in
+    let e = own_split o p s v l _ _ c.in-Some.ensures.meaning in
     let x = c.in-Vendors in
     let f = vendors_split o p s v l es cs n x.body x.rest x.is in
-    let q = err_from_is_err_and c.from-residual-in-err-judge-turns.result c.from-residual-in-err-judge-turns.ensures.1 in
+    let q = err_from_is_err_and c.from_residual-in_err-judge_turns.result c.from_residual-in_err-judge_turns.ensures.1 in
     record {
-      answer = goes_on c.from-residual-in-err-judge-turns.result e c.own_fault.ensures.answer c.in-ok-own-fault.was
-          (stops f c.judge-turns.ensures.answer c.in-err-judge-turns.was q.1 q.2);
-      same = c.judge-turns.ensures.same;
-      why = said_up (passed c.in-err-judge-turns.was q.1 q.2) (vendors_block o p s v l es cs _ n is x.body x.rest x.is) c.judge-turns.ensures.why;
+      answer = goes_on c.from_residual-in_err-judge_turns.result e c.own_fault.ensures c.in_ok-own_fault.was
+          (stops f c.judge_turns.ensures.answer c.in_err-judge_turns.was q.1 q.2);
+      same = c.judge_turns.ensures.same;
     }
 
-pub judge-block-returns-in-ok-judge-turns : goal.judge-block-returns-in-ok-judge-turns
-judge-block-returns-in-ok-judge-turns g t c =
+pub judge_block-returns-in_ok-judge_turns-in-Vendors : goal.judge_block-returns-in_ok-judge_turns-in-Vendors
+judge_block-returns-in_ok-judge_turns-in-Vendors g t c =
     let o = g.L.Lattice.answers c.args.lattice.now in
     let p = plan_of c.args.plan.now in
     let es = exprs_of c.args.script.now in
@@ -254,19 +231,17 @@ judge-block-returns-in-ok-judge-turns g t c =
     let v = val_of c.args.val.now in
     let l = c.args.context.now.label in
     let n = c.in-Some.stmt in
-    let is = c.in-Some.ensures.meaning in
-    let e = own_split o p s v l _ _ is in
+    let e = own_split o p s v l _ _ c.in-Some.ensures.meaning in
     let x = c.in-Vendors in
     let f = vendors_split o p s v l es cs n x.body x.rest x.is in
     record {
-      answer = goes_on c.judge-block-in-Vendors.result e c.own_fault.ensures.answer c.in-ok-own-fault.was
-          (goes_on c.judge-block-in-Vendors.result f c.judge-turns.ensures.answer c.in-ok-judge-turns.was (c.judge-block-in-Vendors.ensures.answer ∙ ap (verdict o p (block_at cs x.rest) s v) c.judge-turns.ensures.same));
-      same = c.judge-block-in-Vendors.ensures.same ∙ c.judge-turns.ensures.same;
-      why = weaken (told c.judge-block-in-Vendors.result) (λ b said. vendors_rest o p s v l es cs _ n is x.body x.rest x.is b (moved o p (block_at cs x.rest) b refl refl c.judge-turns.ensures.same said)) c.judge-block-in-Vendors.ensures.why;
+      answer = goes_on c.judge_block-in-Vendors.result e c.own_fault.ensures c.in_ok-own_fault.was
+          (goes_on c.judge_block-in-Vendors.result f c.judge_turns.ensures.answer c.in_ok-judge_turns.was (c.judge_block-in-Vendors.ensures.answer ∙ ap (verdict o p (block_at cs x.rest) s v) c.judge_turns.ensures.same));
+      same = c.judge_block-in-Vendors.ensures.same ∙ c.judge_turns.ensures.same;
     }
 
-pub judge-block-returns-in-err-judge-rows : goal.judge-block-returns-in-err-judge-rows
-judge-block-returns-in-err-judge-rows g t c =
+pub judge_block-returns-in_err-judge_rows-in-Each : goal.judge_block-returns-in_err-judge_rows-in-Each
+judge_block-returns-in_err-judge_rows-in-Each g t c =
     let o = g.L.Lattice.answers c.args.lattice.now in
     let p = plan_of c.args.plan.now in
     let es = exprs_of c.args.script.now in
@@ -275,20 +250,18 @@ judge-block-returns-in-err-judge-rows g t c =
     let v = val_of c.args.val.now in
     let l = c.args.context.now.label in
     let n = c.in-Some.stmt in
-    let is = c.in-Some.ensures.meaning in
-    let e = own_split o p s v l _ _ is in
+    let e = own_split o p s v l _ _ c.in-Some.ensures.meaning in
     let x = c.in-Each in
     let f = each_split o p s v l es cs n x.table x.owner x.body x.rest c.whom-vendor.result x.is c.whom-vendor.ensures in
-    let q = err_from_is_err_and c.from-residual-in-err-judge-rows.result c.from-residual-in-err-judge-rows.ensures.1 in
+    let q = err_from_is_err_and c.from_residual-in_err-judge_rows.result c.from_residual-in_err-judge_rows.ensures.1 in
     record {
-      answer = goes_on c.from-residual-in-err-judge-rows.result e c.own_fault.ensures.answer c.in-ok-own-fault.was
-          (stops f c.judge-rows.ensures.answer c.in-err-judge-rows.was q.1 q.2);
-      same = c.judge-rows.ensures.same;
-      why = said_up (passed c.in-err-judge-rows.was q.1 q.2) (λ b. each_block o p s v l es cs _ n is x.table x.owner x.body x.rest x.is b c.whom-vendor.result c.whom-vendor.ensures) c.judge-rows.ensures.why;
+      answer = goes_on c.from_residual-in_err-judge_rows.result e c.own_fault.ensures c.in_ok-own_fault.was
+          (stops f c.judge_rows.ensures.answer c.in_err-judge_rows.was q.1 q.2);
+      same = c.judge_rows.ensures.same;
     }
 
-pub judge-block-returns-in-ok-judge-rows : goal.judge-block-returns-in-ok-judge-rows
-judge-block-returns-in-ok-judge-rows g t c =
+pub judge_block-returns-in_ok-judge_rows-in-Each : goal.judge_block-returns-in_ok-judge_rows-in-Each
+judge_block-returns-in_ok-judge_rows-in-Each g t c =
     let o = g.L.Lattice.answers c.args.lattice.now in
     let p = plan_of c.args.plan.now in
     let es = exprs_of c.args.script.now in
@@ -297,20 +270,18 @@ judge-block-returns-in-ok-judge-rows g t c =
     let v = val_of c.args.val.now in
     let l = c.args.context.now.label in
     let n = c.in-Some.stmt in
-    let is = c.in-Some.ensures.meaning in
-    let e = own_split o p s v l _ _ is in
+    let e = own_split o p s v l _ _ c.in-Some.ensures.meaning in
     let x = c.in-Each in
     let f = each_split o p s v l es cs n x.table x.owner x.body x.rest c.whom-vendor.result x.is c.whom-vendor.ensures in
     record {
-      answer = goes_on c.judge-block-in-Each.result e c.own_fault.ensures.answer c.in-ok-own-fault.was
-          (goes_on c.judge-block-in-Each.result f c.judge-rows.ensures.answer c.in-ok-judge-rows.was (c.judge-block-in-Each.ensures.answer ∙ ap (verdict o p (block_at cs x.rest) s v) c.judge-rows.ensures.same));
-      same = c.judge-block-in-Each.ensures.same ∙ c.judge-rows.ensures.same;
-      why = weaken (told c.judge-block-in-Each.result) (λ b said. each_rest o p s v l es cs _ n is x.table x.owner x.body x.rest x.is b (moved o p (block_at cs x.rest) b refl refl c.judge-rows.ensures.same said)) c.judge-block-in-Each.ensures.why;
+      answer = goes_on c.judge_block-in-Each.result e c.own_fault.ensures c.in_ok-own_fault.was
+          (goes_on c.judge_block-in-Each.result f c.judge_rows.ensures.answer c.in_ok-judge_rows.was (c.judge_block-in-Each.ensures.answer ∙ ap (verdict o p (block_at cs x.rest) s v) c.judge_rows.ensures.same));
+      same = c.judge_block-in-Each.ensures.same ∙ c.judge_rows.ensures.same;
     }
 
-pub judge-turns-loop-vendor-preserved : goal.judge-turns-loop-vendor-preserved
+pub judge_turns-loop-vendor-preserved : goal.judge_turns-loop-vendor-preserved
 unfolding scope_of
-judge-turns-loop-vendor-preserved g t c =
+judge_turns-loop-vendor-preserved g t c =
     let o = g.L.Lattice.answers c.args.lattice.now in
     let p = plan_of c.args.plan.now in
     let es = exprs_of c.args.script.now in
@@ -318,22 +289,20 @@ judge-turns-loop-vendor-preserved g t c =
     let s = scope_of c.args.scope.now in
     let v = val_of c.args.val.now in
     let l = c.args.context.now.label in
-    let code = block_at cs c.args.body in
-    let f : ℕ → Option ℕ = λ n. verdict o p code (enter s turn) (put_index v s.depth n) l in
+    let b = block_at cs c.args.body in
+    let f : ℕ → Option ℕ = λ n. verdict o p b (enter s turn) (put_index v s.depth n) l in
     let k = c.loop-vendor.vendor in
     let now = c.loop-vendor.context.label in
-    let one = c.judge-block-fault-there.ensures.answer
-    ∙ ap (λ z. verdict o p code z (val_of c.put-index-turn.result) now) c.enter-inner.ensures.model
-    ∙ ap (λ z. verdict o p code (enter s turn) z now) c.put-index-turn.ensures
-    ∙ ap (verdict o p code (enter s turn) (put_index v s.depth k)) c.loop-vendor.invariant.1 in (
-      c.least-of-least.ensures.place ∙ ap (λ z. least_of z (found c.judge-block-fault-there.result)) c.loop-vendor.invariant.0 ∙ ap (least_of (over f k)) one ∙ sym (over_more f k),
-      c.judge-block-fault-there.ensures.same ∙ c.loop-vendor.invariant.1,
-      said_either _ c.least-of-least.ensures.value c.loop-vendor.invariant.2
-          (weaken (told c.judge-block-fault-there.result) (λ b said. (k, omega (arith, c.loop-vendor-test.true, c.vendors-vendor-end.ensures), moved o p code b c.enter-inner.ensures.model c.put-index-turn.ensures c.loop-vendor.invariant.1 said)) c.judge-block-fault-there.ensures.why),
+    let one = c.judge_block-fault_there.ensures.answer
+    ∙ ap (λ z. verdict o p b z (val_of c.put_index-turn.result) now) c.enter-inner.ensures.model
+    ∙ ap (λ z. verdict o p b (enter s turn) z now) c.put_index-turn.ensures
+    ∙ ap (verdict o p b (enter s turn) (put_index v s.depth k)) c.loop-vendor.invariant.1 in (
+      c.least_of-least.ensures ∙ ap (λ z. least_of z (found c.judge_block-fault_there.result)) c.loop-vendor.invariant.0 ∙ ap (least_of (over f k)) one ∙ sym (over_more f k),
+      c.judge_block-fault_there.ensures.same ∙ c.loop-vendor.invariant.1,
     )
 
-pub judge-turns-returns : goal.judge-turns-returns
-judge-turns-returns g t c =
+pub judge_turns-returns : goal.judge_turns-returns
+judge_turns-returns g t c =
     let o = g.L.Lattice.answers c.args.lattice.now in
     let p = plan_of c.args.plan.now in
     let es = exprs_of c.args.script.now in
@@ -343,7 +312,6 @@ judge-turns-returns g t c =
     let l = c.args.context.now.label in
     let all : c.loop-vendor.vendor ≡ p.vendors = omega (arith, c.vendors-vendor-end.ensures, c.loop-vendor-test.false, c.loop-vendor.auto) in
     record {
-      answer = ap place_in c.fault.ensures ∙ c.loop-vendor.invariant.0 ∙ ap (over (λ n. verdict o p (block_at cs c.args.body) (enter s turn) (put_index v s.depth n) l)) all;
+      answer = c.fault.ensures ∙ c.loop-vendor.invariant.0 ∙ ap (over (λ n. verdict o p (block_at cs c.args.body) (enter s turn) (put_index v s.depth n) l)) all;
       same = c.loop-vendor.invariant.1;
-      why = said_as _ c.fault.ensures c.loop-vendor.invariant.2;
     }

@@ -1,4 +1,4 @@
-use Rattle.std.proofs.Common.{◌≡◌, ℕ, ◌+◌, ◌*◌, ◌<◌, max}
+use Rattle.std.proofs.Common.{◌≡◌, ◌+◌, ◌*◌, max}
 use Rattle.layout.specs.Plans.{plan_of}
 use Rattle.rules.specs.Evaluation.{put_index}
 use Rattle.rules.specs.Labels.{enter, turn}
@@ -6,27 +6,24 @@ use Rattle.rules.specs.Judging.{over, verdict}
 use Rattle.script.specs.Nodes.{block_at}
 use Rattle.script.specs.Meaning.{codes_of}
 use Rattle.judge.specs.Names.{scope_of, val_of}
-use Rattle.judge.specs.Verdicts.{place_in, Of}
-use Rattle.judge.specs.Breaking.{Breaks}
 use Rattle.judge.proofs.judging.+judge_block_judge_branches_judge_rows_judge_turns.Given as goal
 
 -- Blocks nest by going further back.
-abbrev pub decreases-judge-block : goal.decreases-judge-block
-decreases-judge-block g l = 2 * l.block
+abbrev pub decreases-judge_block : goal.decreases-judge_block
+decreases-judge_block g l = 2 * l.block
 
-abbrev pub decreases-judge-branches : goal.decreases-judge-branches
-decreases-judge-branches g l = 2 * max l.first l.second + 1
+abbrev pub decreases-judge_branches : goal.decreases-judge_branches
+decreases-judge_branches g l = 2 * max l.first l.second + 1
 
-abbrev pub decreases-judge-rows : goal.decreases-judge-rows
-decreases-judge-rows g l = 2 * l.body + 1
+abbrev pub decreases-judge_rows : goal.decreases-judge_rows
+decreases-judge_rows g l = 2 * l.body + 1
 
-abbrev pub decreases-judge-turns : goal.decreases-judge-turns
-decreases-judge-turns g l = 2 * l.body + 1
+abbrev pub decreases-judge_turns : goal.decreases-judge_turns
+decreases-judge_turns g l = 2 * l.body + 1
 
--- The least fault of the turns so far, the context as it was, and what is said of the fault.
-abbrev pub invariant-judge-turns-loop-vendor : goal.invariant-judge-turns-loop-vendor
-invariant-judge-turns-loop-vendor g l =
-    (place_in l.least
+-- The least fault of the turns so far, and the context as it was.
+abbrev pub invariant-judge_turns-loop-vendor : goal.invariant-judge_turns-loop-vendor
+invariant-judge_turns-loop-vendor g l =
+    (l.least
     ≡ over (λ v. verdict (g.L.Lattice.answers l.lattice) (plan_of l.plan) (block_at (codes_of l.script) l.body) (enter (scope_of l.scope) turn) (put_index (val_of l.val) (scope_of l.scope).depth v) l.initial.context.label) l.vendor)
     × (l.context.label ≡ l.initial.context.label)
-    × Of l.least (λ b. (v : ℕ) × (v < (plan_of l.plan).vendors) × Breaks (g.L.Lattice.answers l.lattice) (plan_of l.plan) b (block_at (codes_of l.script) l.body) (enter (scope_of l.scope) turn) (put_index (val_of l.val) (scope_of l.scope).depth v) l.initial.context.label)

@@ -28,7 +28,7 @@ returns-in-Apply g t c =
     let o = g.L.Lattice.answers c.args.lattice.now in
     let p = plan_of c.args.plan.now in
     let s = scope_of c.args.scope.now in
-    both_parts o.join c.join.ensures c.expr-label-first.ensures c.expr-label-second.ensures ∙ sym (ap (expr_label o p s) c.in-Apply.ensures.meaning)
+    both_parts o.join c.join.ensures c.expr_label-first.ensures c.expr_label-second.ensures ∙ sym (ap (expr_label o p s) c.in-Apply.ensures.meaning)
 
 pub returns-in-Literal : goal.returns-in-Literal
 unfolding expr_label

@@ -6,8 +6,8 @@ use Rattle.grammar.specs.Tokens.{Digit}
 use Rattle.lexis.proofs.Values.{digit_facts, value_step, too_large, small_enough}
 use Rattle.lexis.proofs.numbers.value_of.Goals as goal
 
-pub overflow-sub-digit : goal.overflow-sub-digit
-overflow-sub-digit c =
+pub overflow_sub-digit : goal.overflow_sub-digit
+overflow_sub-digit c =
     (digit_facts _ (All-get_or Digit c.args.digits.now c.loop-digit.digit-index 0 c.loop-digit-test.true c.requires)).low
 
 pub returns-then-sum : goal.returns-then-sum

@@ -7,29 +7,29 @@ use Rattle.lexis.specs.Meaning.{meaning}
 use Rattle.lexis.proofs.reader.read_word.Goals as goal
 use Rattle.lexis.proofs.reader.read_word.Goals.{in-Some, in-None}
 
-pub slice-bounds-letters-end : goal.slice-bounds-letters-end
-slice-bounds-letters-end c = omega (arith, run_within letter c.args.text.now c.args.place c.requires)
+pub slice_bounds-letters-end : goal.slice_bounds-letters-end
+slice_bounds-letters-end c = omega (arith, run_within letter c.args.text.now c.args.place c.requires)
 
-pub keyword-of-requires : goal.keyword-of-requires
-keyword-of-requires c = record {
-  short = c.if-letters-gt-NAME-LENGTH.false;
+pub keyword_of-requires : goal.keyword_of-requires
+keyword_of-requires c = record {
+  short = c.if-letters-gt-NAME_LENGTH.false;
   letters =
-      subst (All Letter) (sym (part_is_run letter c.args.text.now c.args.place c.run-end-after.result c.run-end-after.ensures))
+      subst (All Letter) (sym (part_is_run letter c.args.text.now c.args.place c.run_end-after.result c.run_end-after.ensures))
       (all_run letter (drop c.args.place c.args.text.now));
 }
 
 -- the run is read as this token
-taken : (c : goal.Joined-keyword-of) (t : Token) → t ≡ word (take (c.run-end-after.result - c.args.place) (drop c.args.place c.args.text.now)) c.keyword_of.result
-    → Ok (record { token = t; place = c.args.place; after = c.run-end-after.result }) ≡ read_word c.args.place (run letter (drop c.args.place c.args.text.now))
+taken : (c : goal.Joined-keyword_of) (t : Token) → t ≡ word (take (c.run_end-after.result - c.args.place) (drop c.args.place c.args.text.now)) c.keyword_of.result
+    → Ok (record { token = t; place = c.args.place; after = c.run_end-after.result }) ≡ read_word c.args.place (run letter (drop c.args.place c.args.text.now))
 taken c t is =
-    read_short c.args.text.now c.args.place c.run-end-after.result _ c.keyword_of.result t c.run-end-after.ensures
-    (part_is_run letter c.args.text.now c.args.place c.run-end-after.result c.run-end-after.ensures)
-    c.if-letters-gt-NAME-LENGTH.false c.keyword_of.ensures is
+    read_short c.args.text.now c.args.place c.run_end-after.result _ c.keyword_of.result t c.run_end-after.ensures
+    (part_is_run letter c.args.text.now c.args.place c.run_end-after.result c.run_end-after.ensures)
+    c.if-letters-gt-NAME_LENGTH.false c.keyword_of.ensures is
 
 pub returns : goal.returns
 returns c =
-    taken c (meaning c.match-keyword-of.token)
-    (elim c.match-keyword-of.branch [
+    taken c (meaning c.match-keyword_of.token)
+    (elim c.match-keyword_of.branch [
       | in-Some w ↦ ap meaning w.token-is ∙ ap (word _) (sym w.in-Some.is)
       | in-None w ↦ ap meaning w.token-is ∙ ap (word _) (sym w.in-None.is)
     ])

@@ -4,8 +4,8 @@ use Rattle.runner.specs.Names.{val_of, cursors_of}
 use Rattle.runner.proofs.Loops.{Turned, Walked}
 use Rattle.runner.proofs.blocks.+run_block.Given as goal
 
-abbrev pub decreases-run-block : goal.decreases-run-block
-decreases-run-block l = l.block
+abbrev pub decreases-run_block : goal.decreases-run_block
+decreases-run_block l = l.block
 
 -- The turns made so far lead from where the loop began to here.
 abbrev pub invariant-loop-vendor : goal.invariant-loop-vendor

@@ -27,7 +27,7 @@ returns-in-Variable t c =
 pub returns-in-Cell : goal.returns-in-Cell
 unfolding eval
 returns-in-Cell t c =
-    c.get-or.ensures ∙ ap (λ row. get_or row c.in-Cell.column 0) c.cursor.ensures
+    c.cell.ensures ∙ ap (λ row. get_or row c.in-Cell.column 0) c.cursor.ensures
     ∙ sym (ap (eval (val_of c.args.env.now) (cursors_of c.args.env.now) (vars_of c.args.locals.now)) c.in-Cell.ensures.meaning)
 
 pub returns-in-Apply : goal.returns-in-Apply

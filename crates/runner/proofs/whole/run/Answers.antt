@@ -14,6 +14,6 @@ returns c ready =
     let script = c.args.script.now in
     let env = c.new-env.result in
     let locals = c.new-locals.result in
-    ran_whole (plan_of plan) (script_of script) c.args.vendor c.args.lots.now plan.kept ready env locals c.run-block.new.locals c.run-block.new.lots
+    ran_whole (plan_of plan) (script_of script) c.args.vendor c.args.lots.now plan.kept ready env locals c.run_block.new.locals c.run_block.new.lots
     (subst (λ n. Nameless env c.args.vendor n) c.vendors.ensures c.new-env.ensures) c.new-locals.ensures.vars c.new-locals.ensures.steps
-    (as_read env.vendors env.depth (val_of env) (cursors_of env) _ _ _ _ _ _ c.first.ensures c.run-block.ensures)
+    (as_read env.vendors env.depth (val_of env) (cursors_of env) _ _ _ _ _ _ c.first.ensures c.run_block.ensures)

@@ -9,5 +9,5 @@ use Rattle.lexis.proofs.token.Token.is_keyword.Goals as goal
 
 pub returns-in-Keyword : goal.returns-in-Keyword
 returns-in-Keyword c =
-    same_from_decides c.eq.result (bytes_eq (letters c.args.keyword) (letters c.in-Keyword.this)) c.eq.ensures (keyword_tells c.args.keyword c.in-Keyword.this)
+    same_from_decides c.eq.result (bytes_eq (letters c.args.keyword) (letters c.in-Keyword.this)) c.eq.ensures.decides (keyword_tells c.args.keyword c.in-Keyword.this)
     ∙ sym (ap (λ t. is_keyword c.args.keyword (meaning t)) c.in-Keyword.is)

@@ -8,5 +8,5 @@ use Rattle.lexis.proofs.token.Token.is_mark.Goals as goal
 
 pub returns-in-Mark : goal.returns-in-Mark
 returns-in-Mark c =
-    same_from_decides c.eq.result (eqb (byte c.args.mark) (byte c.in-Mark.this)) c.eq.ensures (mark_tells c.args.mark c.in-Mark.this)
+    same_from_decides c.eq.result (eqb (byte c.args.mark) (byte c.in-Mark.this)) c.eq.ensures.decides (mark_tells c.args.mark c.in-Mark.this)
     ∙ sym (ap (λ t. is_mark c.args.mark (meaning t)) c.in-Mark.is)

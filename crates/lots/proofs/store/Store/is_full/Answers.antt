@@ -9,7 +9,7 @@ pub returns-in-Some : goal.returns-in-Some
 returns-in-Some c =
     let v = c.args.vendor in
     let k = c.in-Some.ensures in
-    c.is-full.ensures
+    c.is_full.ensures
     ∙ ap (λ (x : Lot). leb (pair_at (pairs_in c.in-Some.found.now) v).length (length x.rows)) (sym (k.lots v))
     ∙ ap (λ n. leb n (length (lots_of c.args.self.now c.args.table v).rows)) (sym (k.rooms v))
 

@@ -16,8 +16,8 @@ new-requires c =
     let long : length c.lots.result.now ≡ length (map pair_of c.lots.result.now) = sym (length-map c.lots.result.now pair_of) in
     (ap (laid 0 256) c.lots.ensures ∙ kept.1, omega (arith, long, ap length c.lots.ensures, kept.0))
 
-pub offset-bounds-tables-count : goal.offset-bounds-tables-count
-offset-bounds-tables-count c =
+pub offset_bounds-tables-count : goal.offset_bounds-tables-count
+offset_bounds-tables-count c =
     let p = c.args.plan.now in
     omega (arith, few_tables (plan_of p) p.kept c.tables-declared.result.now c.tables-declared.ensures)
 
@@ -39,12 +39,12 @@ loop-table-preserved c =
       none_more c.loop-table.tables c.loop-table.count c.new.result low c.lots.result.now c.loop-table.invariant.3 c.new.ensures.lots,
     )
 
-pub invariant-of-result : goal.invariant-of-result
-invariant-of-result c =
+pub invariant_of-result : goal.invariant_of-result
+invariant_of-result c =
     let p = c.args.plan.now in
     let few = few_tables (plan_of p) p.kept c.tables-declared.result.now c.tables-declared.ensures in
     let low : c.loop-table.count ≤ 4 = omega arith in
-    (c.loop-table.invariant.0, (low, tt))
+    record { whole = c.loop-table.invariant.0; few = low }
 
 pub returns : goal.returns
 unfolding lots_of pairs_of

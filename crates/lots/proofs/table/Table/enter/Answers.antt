@@ -7,21 +7,21 @@ use Rattle.lots.specs.Tables.{lots_in}
 use Rattle.lots.proofs.SlotWrites.{no_lot, nothing_written, full, room_left, lent, whole_after, only, lots_with, lots_written, pairs_with, kept_with}
 use Rattle.lots.proofs.table.Table.enter.Goals as goal
 
-pub returns-in-default : goal.returns-in-default
-returns-in-default c = record {
-  lots = no_lot c.args.self.now c.args.vendor _ c.in-default.ensures;
+pub returns-in_default : goal.returns-in_default
+returns-in_default c = record {
+  lots = no_lot c.args.self.now c.args.vendor _ c.in_default.ensures;
   pairs = refl;
   outside = nothing_written _ _;
 }
 
-pub invariant-of-self : goal.invariant-of-self
-invariant-of-self c =
+pub invariant_of-self : goal.invariant_of-self
+invariant_of-self c =
     let s = c.args.self.now in
     let v = c.args.vendor in
     let l = c.in-Some.lot in
     let k = c.in-Some.ensures in
-    let new : coded.Lot = record { offset = l.offset; length = l.length; count = l.count; lost = c.saturating-add-lost.result } in
-    (s.whole, (length-set s.lots v new ∙ s.every, (s.few, (kept_with s v l k new refl k.held, tt))))
+    let new : coded.Lot = record { offset = l.offset; length = l.length; count = l.count; lost = c.saturating_add-lost.result } in
+    record { whole = s.whole; every = length-set s.lots v new ∙ s.every; few = s.few; kept = kept_with s v l k new refl k.held }
 
 pub returns-then-lot : goal.returns-then-lot
 returns-then-lot c =
@@ -29,26 +29,29 @@ returns-then-lot c =
     let v = c.args.vendor in
     let l = c.in-Some.lot in
     let k = c.in-Some.ensures in
-    let new : coded.Lot = record { offset = l.offset; length = l.length; count = l.count; lost = c.saturating-add-lost.result } in
+    let new : coded.Lot = record { offset = l.offset; length = l.length; count = l.count; lost = c.saturating_add-lost.result } in
     record {
       lots = lots_with s v l k new
-          ∙ ap (λ n. set (lots_in s) v (record { rows = (lot_in s.slots l).rows; lost = n })) c.saturating-add-lost.ensures
+          ∙ ap (λ n. set (lots_in s) v (record { rows = (lot_in s.slots l).rows; lost = n })) c.saturating_add-lost.ensures
           ∙ ap (set (lots_in s) v) (sym (full s v l k (row_of c.args.row) c.if-lot.true));
       pairs = pairs_with s v l k new refl;
       outside = nothing_written _ _;
     }
 
-pub invariant-of-self-2 : goal.invariant-of-self-2
-invariant-of-self-2 c =
+pub invariant_of-self-2 : goal.invariant_of-self-2
+invariant_of-self-2 c =
     let s = c.args.self.now in
     let v = c.args.vendor in
     let l = c.in-Some.lot in
     let k = c.in-Some.ensures in
     let new : coded.Lot = record { offset = l.offset; length = l.length; count = l.count + 1; lost = l.lost } in
-    let few : l.count + 1 ≤ l.length = omega (arith, c.if-lot.false) in (
-      whole_after s v l k c.add.new.part c.add.auto.part,
-      (length-set s.lots v new ∙ s.every, (s.few, (kept_with s v l k new refl few, tt))),
-    )
+    let few : l.count + 1 ≤ l.length = omega (arith, c.if-lot.false) in
+    record {
+      whole = whole_after s v l k c.add.new.part c.add.auto.part;
+      every = length-set s.lots v new ∙ s.every;
+      few = s.few;
+      kept = kept_with s v l k new refl few;
+    }
 
 pub returns : goal.returns
 returns c =

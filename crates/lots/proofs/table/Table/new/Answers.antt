@@ -12,22 +12,16 @@ loop-pair-preserved c =
           c.loop-pair.invariant.1 low c.loop-pair.invariant.2,
     )
 
-pub invariant-of-result : goal.invariant-of-result
-invariant-of-result c =
-    let few : c.loop-pair.vendors ≤ 32 = omega (arith, c.requires.1) in (
-      refl,
-      (
-        c.loop-pair.invariant.0,
-        (
-          few,
-          (
-            opened_orderly c.args.pairs.now c.loop-pair.lots c.loop-pair.vendors c.loop-pair.pair-index c.loop-pair.invariant.2 c.loop-pair-test.false
-                c.requires.0,
-            tt,
-          ),
-        ),
-      ),
-    )
+pub invariant_of-result : goal.invariant_of-result
+invariant_of-result c =
+    let few : c.loop-pair.vendors ≤ 32 = omega (arith, c.requires.1) in
+    record {
+      whole = refl;
+      every = c.loop-pair.invariant.0;
+      few = few;
+      kept = opened_orderly c.args.pairs.now c.loop-pair.lots c.loop-pair.vendors c.loop-pair.pair-index c.loop-pair.invariant.2 c.loop-pair-test.false
+          c.requires.0;
+    }
 
 pub returns : goal.returns
 returns c = record {

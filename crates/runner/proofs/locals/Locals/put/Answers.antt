@@ -11,9 +11,9 @@ unfolding vars_of
 returns c =
     let s = c.args.self.now in
     let level = c.args.level in
-    let within : level < length s.vars = omega (arith, s.whole, c.if-level-ge-MOST-NAMES.false) in
+    let within : level < length s.vars = omega (arith, s.whole, c.if-level-ge-MOST_NAMES.false) in
     record {
       vars = set_is_upd s.vars level c.args.value 0 within
-          ∙ sym (cond-true {A = ℕ → ℕ} (nameable level) (upd (vars_of s) level c.args.value) (vars_of s) (lt-ltb level 16 c.if-level-ge-MOST-NAMES.false));
+          ∙ sym (cond-true {A = ℕ → ℕ} (nameable level) (upd (vars_of s) level c.args.value) (vars_of s) (lt-ltb level 16 c.if-level-ge-MOST_NAMES.false));
       steps = refl;
     }

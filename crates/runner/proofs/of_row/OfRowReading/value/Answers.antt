@@ -16,9 +16,9 @@ unfolding row_value
 returns c =
     let s = c.args.self.now in
     let e = expr_at (exprs_of s.script.now) s.at in
-    let env = c.with-cursor-env.result in
+    let env = c.with_cursor-env.result in
     let vars = vars_of s.locals.now in
     let was = s.env.now in
     c.evaluate.ensures
-    ∙ ap (λ val. eval val (cursors_of env) vars e) (c.with-cursor-env.ensures.val-is ∙ either_way (nameable was.depth) (val_of was))
-    ∙ ap (λ cs. eval (val_of was) cs vars e) c.with-cursor-env.ensures.cursors_are
+    ∙ ap (λ val. eval val (cursors_of env) vars e) (c.with_cursor-env.ensures.val_is ∙ either_way (nameable was.depth) (val_of was))
+    ∙ ap (λ cs. eval (val_of was) cs vars e) c.with_cursor-env.ensures.cursors_are
