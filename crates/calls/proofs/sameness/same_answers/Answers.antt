@@ -4,5 +4,5 @@ use Rattle.calls.proofs.sameness.same_answers.Goals as goal
 
 pub returns : goal.returns
 returns c =
-    decides_lists (λ answer. answer) c.all-same.result c.args.left.now c.args.right.now c.args.left.now c.args.right.now
-    (map-id c.args.left.now) (map-id c.args.right.now) c.all-same.ensures
+    decides_lists (λ answer. answer) c.all_same.result c.args.left.now c.args.right.now c.args.left.now c.args.right.now
+    (map-id c.args.left.now) (map-id c.args.right.now) c.all_same.ensures

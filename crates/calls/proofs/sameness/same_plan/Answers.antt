@@ -13,8 +13,8 @@ pub returns : goal.returns
 returns c =
     let a = plan_of c.args.left.now in
     let b = plan_of c.args.right.now in
-    let tables = decides_lists table_of c.all-same.result c.tables.result.now c.tables-2.result.now a.tables b.tables
-    c.tables.ensures c.tables-2.ensures c.all-same.ensures in
-    Decides-like c.all-same.result
+    let tables = decides_lists table_of c.all_same.result c.tables.result.now c.tables-2.result.now a.tables b.tables
+    c.tables.ensures c.tables-2.ensures c.all_same.ensures in
+    Decides-like c.all_same.result
     (plans_equal a b (sym c.vendors.ensures ∙ c.if-vendors.false ∙ c.vendors-2.ensures))
     (ap (λ p. p.tables)) tables

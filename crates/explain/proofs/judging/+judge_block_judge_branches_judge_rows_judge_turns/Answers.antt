@@ -150,12 +150,12 @@ judge_block-returns-in_err-judge_branches-in-If g t c =
     let e = own_split o p s v l _ _ is in
     let x = c.in-If in
     let f = if_split o p s v l es cs n x.condition x.first x.second x.rest x.is in
-    let q = err_from_is_err_and c.from_residual-in_err-judge_branches.result c.from_residual-in_err-judge_branches.ensures.1 in
+    let q = err_from_is_err_and c.from_residual-in_err-judge_branches-in-If.result c.from_residual-in_err-judge_branches-in-If.ensures.1 in
     record {
-      answer = goes_on c.from_residual-in_err-judge_branches.result e c.own_fault.ensures.answer c.in_ok-own_fault.was
-          (stops f c.judge_branches.ensures.answer c.in_err-judge_branches.was q.1 q.2);
+      answer = goes_on c.from_residual-in_err-judge_branches-in-If.result e c.own_fault.ensures.answer c.in_ok-own_fault.was
+          (stops f c.judge_branches.ensures.answer c.in_err-judge_branches-in-If.was q.1 q.2);
       same = c.judge_branches.ensures.same;
-      why = said_up (passed c.in_err-judge_branches.was q.1 q.2) (if_blocks o p s v l es cs _ n is x.condition x.first x.second x.rest x.is) c.judge_branches.ensures.why;
+      why = said_up (passed c.in_err-judge_branches-in-If.was q.1 q.2) (if_blocks o p s v l es cs _ n is x.condition x.first x.second x.rest x.is) c.judge_branches.ensures.why;
     }
 
 pub judge_block-returns-in_ok-judge_branches-in-If : goal.judge_block-returns-in_ok-judge_branches-in-If
@@ -174,7 +174,7 @@ judge_block-returns-in_ok-judge_branches-in-If g t c =
     let f = if_split o p s v l es cs n x.condition x.first x.second x.rest x.is in
     record {
       answer = goes_on c.judge_block-in-If.result e c.own_fault.ensures.answer c.in_ok-own_fault.was
-          (goes_on c.judge_block-in-If.result f c.judge_branches.ensures.answer c.in_ok-judge_branches.was (c.judge_block-in-If.ensures.answer ∙ ap (verdict o p (block_at cs x.rest) s v) c.judge_branches.ensures.same));
+          (goes_on c.judge_block-in-If.result f c.judge_branches.ensures.answer c.in_ok-judge_branches-in-If.was (c.judge_block-in-If.ensures.answer ∙ ap (verdict o p (block_at cs x.rest) s v) c.judge_branches.ensures.same));
       same = c.judge_block-in-If.ensures.same ∙ c.judge_branches.ensures.same;
       why = weaken (told c.judge_block-in-If.result) (λ b said. if_rest o p s v l es cs _ n is x.condition x.first x.second x.rest x.is b (moved o p (block_at cs x.rest) b refl refl c.judge_branches.ensures.same said)) c.judge_block-in-If.ensures.why;
     }
@@ -193,12 +193,12 @@ judge_block-returns-in_err-judge_block-in-When g t c =
     let e = own_split o p s v l _ _ is in
     let x = c.in-When in
     let f = when_split o p s v l es cs n x.left x.right x.first x.second x.rest c.chosen-body.result x.is c.chosen-body.ensures in
-    let q = err_from_is_err_and c.from_residual-in_err-judge_block.result c.from_residual-in_err-judge_block.ensures.1 in
+    let q = err_from_is_err_and c.from_residual-in_err-judge_block-in-When.result c.from_residual-in_err-judge_block-in-When.ensures.1 in
     record {
-      answer = goes_on c.from_residual-in_err-judge_block.result e c.own_fault.ensures.answer c.in_ok-own_fault.was
-          (stops f c.judge_block-in-When.ensures.answer c.in_err-judge_block.was q.1 q.2);
+      answer = goes_on c.from_residual-in_err-judge_block-in-When.result e c.own_fault.ensures.answer c.in_ok-own_fault.was
+          (stops f c.judge_block-in-When.ensures.answer c.in_err-judge_block-in-When.was q.1 q.2);
       same = c.judge_block-in-When.ensures.same;
-      why = said_up (passed c.in_err-judge_block.was q.1 q.2) (λ b. when_block o p s v l es cs _ n is x.left x.right x.first x.second x.rest x.is b c.chosen-body.result c.chosen-body.ensures) c.judge_block-in-When.ensures.why;
+      why = said_up (passed c.in_err-judge_block-in-When.was q.1 q.2) (λ b. when_block o p s v l es cs _ n is x.left x.right x.first x.second x.rest x.is b c.chosen-body.result c.chosen-body.ensures) c.judge_block-in-When.ensures.why;
     }
 
 pub judge_block-returns-in_ok-judge_block-in-When : goal.judge_block-returns-in_ok-judge_block-in-When
@@ -217,7 +217,7 @@ judge_block-returns-in_ok-judge_block-in-When g t c =
     let f = when_split o p s v l es cs n x.left x.right x.first x.second x.rest c.chosen-body.result x.is c.chosen-body.ensures in
     record {
       answer = goes_on c.judge_block-in-When-2.result e c.own_fault.ensures.answer c.in_ok-own_fault.was
-          (goes_on c.judge_block-in-When-2.result f c.judge_block-in-When.ensures.answer c.in_ok-judge_block.was (c.judge_block-in-When-2.ensures.answer ∙ ap (verdict o p (block_at cs x.rest) s v) c.judge_block-in-When.ensures.same));
+          (goes_on c.judge_block-in-When-2.result f c.judge_block-in-When.ensures.answer c.in_ok-judge_block-in-When.was (c.judge_block-in-When-2.ensures.answer ∙ ap (verdict o p (block_at cs x.rest) s v) c.judge_block-in-When.ensures.same));
       same = c.judge_block-in-When-2.ensures.same ∙ c.judge_block-in-When.ensures.same;
       why = weaken (told c.judge_block-in-When-2.result) (λ b said. when_rest o p s v l es cs _ n is x.left x.right x.first x.second x.rest x.is b (moved o p (block_at cs x.rest) b refl refl c.judge_block-in-When.ensures.same said)) c.judge_block-in-When-2.ensures.why;
     }
@@ -236,12 +236,12 @@ judge_block-returns-in_err-judge_turns-in-Vendors g t c =
     let e = own_split o p s v l _ _ is in
     let x = c.in-Vendors in
     let f = vendors_split o p s v l es cs n x.body x.rest x.is in
-    let q = err_from_is_err_and c.from_residual-in_err-judge_turns.result c.from_residual-in_err-judge_turns.ensures.1 in
+    let q = err_from_is_err_and c.from_residual-in_err-judge_turns-in-Vendors.result c.from_residual-in_err-judge_turns-in-Vendors.ensures.1 in
     record {
-      answer = goes_on c.from_residual-in_err-judge_turns.result e c.own_fault.ensures.answer c.in_ok-own_fault.was
-          (stops f c.judge_turns.ensures.answer c.in_err-judge_turns.was q.1 q.2);
+      answer = goes_on c.from_residual-in_err-judge_turns-in-Vendors.result e c.own_fault.ensures.answer c.in_ok-own_fault.was
+          (stops f c.judge_turns.ensures.answer c.in_err-judge_turns-in-Vendors.was q.1 q.2);
       same = c.judge_turns.ensures.same;
-      why = said_up (passed c.in_err-judge_turns.was q.1 q.2) (vendors_block o p s v l es cs _ n is x.body x.rest x.is) c.judge_turns.ensures.why;
+      why = said_up (passed c.in_err-judge_turns-in-Vendors.was q.1 q.2) (vendors_block o p s v l es cs _ n is x.body x.rest x.is) c.judge_turns.ensures.why;
     }
 
 pub judge_block-returns-in_ok-judge_turns-in-Vendors : goal.judge_block-returns-in_ok-judge_turns-in-Vendors
@@ -260,7 +260,7 @@ judge_block-returns-in_ok-judge_turns-in-Vendors g t c =
     let f = vendors_split o p s v l es cs n x.body x.rest x.is in
     record {
       answer = goes_on c.judge_block-in-Vendors.result e c.own_fault.ensures.answer c.in_ok-own_fault.was
-          (goes_on c.judge_block-in-Vendors.result f c.judge_turns.ensures.answer c.in_ok-judge_turns.was (c.judge_block-in-Vendors.ensures.answer ∙ ap (verdict o p (block_at cs x.rest) s v) c.judge_turns.ensures.same));
+          (goes_on c.judge_block-in-Vendors.result f c.judge_turns.ensures.answer c.in_ok-judge_turns-in-Vendors.was (c.judge_block-in-Vendors.ensures.answer ∙ ap (verdict o p (block_at cs x.rest) s v) c.judge_turns.ensures.same));
       same = c.judge_block-in-Vendors.ensures.same ∙ c.judge_turns.ensures.same;
       why = weaken (told c.judge_block-in-Vendors.result) (λ b said. vendors_rest o p s v l es cs _ n is x.body x.rest x.is b (moved o p (block_at cs x.rest) b refl refl c.judge_turns.ensures.same said)) c.judge_block-in-Vendors.ensures.why;
     }
@@ -279,12 +279,12 @@ judge_block-returns-in_err-judge_rows-in-Each g t c =
     let e = own_split o p s v l _ _ is in
     let x = c.in-Each in
     let f = each_split o p s v l es cs n x.table x.owner x.body x.rest c.whom-vendor.result x.is c.whom-vendor.ensures in
-    let q = err_from_is_err_and c.from_residual-in_err-judge_rows.result c.from_residual-in_err-judge_rows.ensures.1 in
+    let q = err_from_is_err_and c.from_residual-in_err-judge_rows-in-Each.result c.from_residual-in_err-judge_rows-in-Each.ensures.1 in
     record {
-      answer = goes_on c.from_residual-in_err-judge_rows.result e c.own_fault.ensures.answer c.in_ok-own_fault.was
-          (stops f c.judge_rows.ensures.answer c.in_err-judge_rows.was q.1 q.2);
+      answer = goes_on c.from_residual-in_err-judge_rows-in-Each.result e c.own_fault.ensures.answer c.in_ok-own_fault.was
+          (stops f c.judge_rows.ensures.answer c.in_err-judge_rows-in-Each.was q.1 q.2);
       same = c.judge_rows.ensures.same;
-      why = said_up (passed c.in_err-judge_rows.was q.1 q.2) (λ b. each_block o p s v l es cs _ n is x.table x.owner x.body x.rest x.is b c.whom-vendor.result c.whom-vendor.ensures) c.judge_rows.ensures.why;
+      why = said_up (passed c.in_err-judge_rows-in-Each.was q.1 q.2) (λ b. each_block o p s v l es cs _ n is x.table x.owner x.body x.rest x.is b c.whom-vendor.result c.whom-vendor.ensures) c.judge_rows.ensures.why;
     }
 
 pub judge_block-returns-in_ok-judge_rows-in-Each : goal.judge_block-returns-in_ok-judge_rows-in-Each
@@ -303,7 +303,7 @@ judge_block-returns-in_ok-judge_rows-in-Each g t c =
     let f = each_split o p s v l es cs n x.table x.owner x.body x.rest c.whom-vendor.result x.is c.whom-vendor.ensures in
     record {
       answer = goes_on c.judge_block-in-Each.result e c.own_fault.ensures.answer c.in_ok-own_fault.was
-          (goes_on c.judge_block-in-Each.result f c.judge_rows.ensures.answer c.in_ok-judge_rows.was (c.judge_block-in-Each.ensures.answer ∙ ap (verdict o p (block_at cs x.rest) s v) c.judge_rows.ensures.same));
+          (goes_on c.judge_block-in-Each.result f c.judge_rows.ensures.answer c.in_ok-judge_rows-in-Each.was (c.judge_block-in-Each.ensures.answer ∙ ap (verdict o p (block_at cs x.rest) s v) c.judge_rows.ensures.same));
       same = c.judge_block-in-Each.ensures.same ∙ c.judge_rows.ensures.same;
       why = weaken (told c.judge_block-in-Each.result) (λ b said. each_rest o p s v l es cs _ n is x.table x.owner x.body x.rest x.is b (moved o p (block_at cs x.rest) b refl refl c.judge_rows.ensures.same said)) c.judge_block-in-Each.ensures.why;
     }

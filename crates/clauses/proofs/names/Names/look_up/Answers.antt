@@ -19,4 +19,4 @@ loop-level-preserved c =
 pub returns : goal.returns
 returns c =
     c.loop-level.invariant
-    ∙ ap (λ xs. look_up c.args.word.now (newest_first xs [])) (take_all _ c.as-slice-names.result.now c.loop-level-test.false ∙ c.as-slice-names.ensures)
+    ∙ ap (λ xs. look_up c.args.word.now (newest_first xs [])) (take_all _ c.as_slice-names.result.now c.loop-level-test.false ∙ c.as_slice-names.ensures)
