@@ -18,7 +18,7 @@ pub(crate) trait Same {
 
 // Whether two lists are equally long, and the same item by item.
 fn all_same<S: Same>(left: &[S], right: &[S]) -> bool
-    ensures { Decides result (AllZip alike left.now right.now) }
+    ensures { Decides result (AllZip S.alike left.now right.now) }
 {
     if left.len() != right.len() {
         return false;

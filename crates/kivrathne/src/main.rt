@@ -10,6 +10,8 @@ use batch::batch;
 use help::help;
 use play::play_file;
 use std::env;
+use std::io::Error;
+use std::process::ExitCode;
 use stop::Stop;
 
 // A command that takes a file.
@@ -44,12 +46,13 @@ fn command(rt: &HostRuntime) -> Result<(), Stop> {
     }
 }
 
-fn main(rt: HostRuntime) -> Result<(), Stop> {
+// A command that stops says why on standard error, and the status is then 1.
+fn main(rt: HostRuntime) -> Result<ExitCode, Error> {
     match command(&rt) {
-        Ok(()) => Ok(()),
+        Ok(()) => Ok(ExitCode::SUCCESS),
         Err(stop) => {
             eprintln!(rt; "{stop}")?;
-            Err(stop)
+            Ok(ExitCode::FAILURE)
         }
     }
 }

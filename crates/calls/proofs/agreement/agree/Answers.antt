@@ -19,16 +19,16 @@ loop-call-preserved g c =
     elim c.if-not-is_unseen.branch [
       | then-not-is_unseen+else-at-right+else-not-are_alike w ↦
           let j = w.next_seen-at.result in (
-            omega (arith, w.at_is),
-            ap (λ n. left_alike o p s (i + 1) xs n ys) w.at_is
+            omega (arith, w.at-is),
+            ap (λ n. left_alike o p s (i + 1) xs n ys) w.at-is
                 ∙ alike_more o p s i xs j ys no_call c.loop-call-test.true (sym c.is_unseen.ensures ∙ w.if-not-is_unseen.true)
                 w.if-at-right.false (w.next_seen-at.ensures.seen w.if-at-right.false no_call) (sym w.are_alike.ensures ∙ w.if-not-are_alike.false)
                 ∙ ap (all_alike o p s (rest o p s i xs)) w.next_seen-at.ensures.same
                 ∙ c.loop-call.invariant.1,
           )
       | else-not-is_unseen w ↦ (
-        omega (arith, w.at_is, c.loop-call.invariant.0),
-        ap (λ n. left_alike o p s (i + 1) xs n ys) w.at_is
+        omega (arith, w.at-is, c.loop-call.invariant.0),
+        ap (λ n. left_alike o p s (i + 1) xs n ys) w.at-is
             ∙ ap (λ l. all_alike o p s l (rest o p s c.loop-call.at ys))
             (sym (rest_unseen o p s i xs no_call c.loop-call-test.true (sym c.is_unseen.ensures ∙ w.if-not-is_unseen.false)))
             ∙ c.loop-call.invariant.1,

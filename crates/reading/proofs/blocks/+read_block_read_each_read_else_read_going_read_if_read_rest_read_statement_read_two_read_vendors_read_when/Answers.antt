@@ -21,141 +21,141 @@ use Rattle.reading.proofs.Fitting.{two_blocks_fit}
 use Rattle.reading.proofs.Whens.{when_is}
 use Rattle.reading.proofs.blocks.+read_block_read_each_read_else_read_going_read_if_read_rest_read_statement_read_two_read_vendors_read_when.Goals as goal
 
-pub read-going-push-stmt-block-requires : goal.read-going-push-stmt-block-requires
-read-going-push-stmt-block-requires t c =
-    let told = c.in-ok-stated.ensures.grown in
-    let rest = c.in-ok-rest.ensures.grown in
+pub read_going-push_stmt-block-requires : goal.read_going-push_stmt-block-requires
+read_going-push_stmt-block-requires t c =
+    let told = c.in_ok-stated.ensures.grown in
+    let rest = c.in_ok-rest.ensures.grown in
     let es = exprs_of c.read_rest.new.script in
     let cs = codes_of c.read_rest.new.script in
-    and_from (ltb (length cs) 65) (stmt_ordered (length es) (length cs) c.with-rest.result)
+    and_from (ltb (length cs) 65) (stmt_ordered (length es) (length cs) c.with_rest.result)
     (lt-ltb (length cs) 65 (omega (arith, c.requires.ready.room, told.larger.begun, rest.larger.begun, rest.larger.limit)))
-    (ap (stmt_ordered (length es) (length cs)) c.with-rest.ensures
-    ∙ rest_fits _ _ _ _ rest.larger.exprs rest.larger.stays c.in-ok-stated.stated.node c.in-ok-rest.rest.block told.fits rest.inside)
+    (ap (stmt_ordered (length es) (length cs)) c.with_rest.ensures
+    ∙ rest_fits _ _ _ _ rest.larger.exprs rest.larger.stays c.in_ok-stated.stated.node c.in_ok-rest.rest.block told.fits rest.inside)
 
-pub read-going-returns : goal.read-going-returns
-read-going-returns t c =
-    let told = c.in-ok-stated.ensures.grown in
-    let rest = c.in-ok-rest.ensures.grown in
+pub read_going-returns : goal.read_going-returns
+read_going-returns t c =
+    let told = c.in_ok-stated.ensures.grown in
+    let rest = c.in_ok-rest.ensures.grown in
     let text = text_of c.args.reader.now in
     let env = env_of c.args.env in
     let mid = c.read_statement.new.reader in
-    let was = c.in-ok-stated.ensures.text in
+    let was = c.in_ok-stated.ensures.text in
     let scope = scope_of c.read_statement.new.env.names in
-    let counts = c.in-ok-stated.stated.counts in
+    let counts = c.in_ok-stated.stated.counts in
     let closed = closes c.args.close in
     record {
-      value = ap (λ x. Ok (record { code = x; after = place_of c.read_rest.new.reader; counts = c.in-ok-rest.rest.counts }))
-          (c.push-stmt-block.ensures.here
-          ∙ ap (code_of (exprs_of c.read_rest.new.script) (codes_of c.read_rest.new.script)) c.with-rest.ensures
-          ∙ rest_code _ _ _ _ rest.larger.exprs rest.larger.stays c.in-ok-stated.stated.node c.in-ok-rest.rest.block told.fits)
+      value = ap (λ x. Ok (record { code = x; after = place_of c.read_rest.new.reader; counts = c.in_ok-rest.rest.counts }))
+          (c.push_stmt-block.ensures.here
+          ∙ ap (code_of (exprs_of c.read_rest.new.script) (codes_of c.read_rest.new.script)) c.with_rest.ensures
+          ∙ rest_code _ _ _ _ rest.larger.exprs rest.larger.stays c.in_ok-stated.stated.node c.in_ok-rest.rest.block told.fits)
           ∙ sym (going_is text c.args.left closed env c.args.place (place_of c.args.reader.now) (begin c.args.counts) c.args.opening _ _
-          (sym c.in-ok-stated.ensures.value)
+          (sym c.in_ok-stated.ensures.value)
           (ap (λ u. read_rest u c.args.left closed (naming env scope) (place_of mid) counts) (sym was)
-          ∙ ap (λ e. read_rest (text_of mid) c.args.left closed e (place_of mid) counts) (sym c.in-ok-stated.ensures.env)
-          ∙ sym c.in-ok-rest.ensures.value));
-      text = c.in-ok-rest.ensures.text ∙ was;
+          ∙ ap (λ e. read_rest (text_of mid) c.args.left closed e (place_of mid) counts) (sym c.in_ok-stated.ensures.env)
+          ∙ sym c.in_ok-rest.ensures.value));
+      text = c.in_ok-rest.ensures.text ∙ was;
       grown = record {
-        inside = omega (arith, c.push-stmt-block.ensures.value, c.push-stmt-block.ensures.size);
-        larger = larger_pushed _ _ _ _ _ _ _ _ (larger_twice _ _ _ _ _ _ _ _ _ told.larger rest.larger) c.push-stmt-block.ensures.exprs
-            c.push-stmt-block.ensures.kept c.push-stmt-block.ensures.size;
+        inside = omega (arith, c.push_stmt-block.ensures.value, c.push_stmt-block.ensures.size);
+        larger = larger_pushed _ _ _ _ _ _ _ _ (larger_twice _ _ _ _ _ _ _ _ _ told.larger rest.larger) c.push_stmt-block.ensures.exprs
+            c.push_stmt-block.ensures.kept c.push_stmt-block.ensures.size;
       };
     }
 
-pub read-rest-returns-in-err-found : goal.read-rest-returns-in-err-found
-read-rest-returns-in-err-found t c = rw rest_is (search rules)
+pub read_rest-returns-in_err-found : goal.read_rest-returns-in_err-found
+read_rest-returns-in_err-found t c = rw rest_is (search rules)
 
-pub read-rest-returns-then-is : goal.read-rest-returns-then-is
-read-rest-returns-then-is t c = record {
+pub read_rest-returns-then-is : goal.read_rest-returns-then-is
+read_rest-returns-then-is t c = record {
   value = ap (λ x. Ok (record { code = x; after = place_of c.next.new.self; counts = c.args.counts })) c.requires.empty
-      ∙ ap (λ n. Ok (record { code = rules.Code.stop; after = n; counts = c.args.counts })) c.in-ok-found.ensures.place
-      ∙ sym (rest_closed (text_of c.args.reader.now) c.args.left (closes c.args.close) (env_of c.args.env) (place_of c.args.reader.now) c.args.counts _ (sym c.in-ok-found.ensures.value) (sym c.is.ensures ∙ c.if-is.true));
-  text = c.in-ok-found.ensures.text;
+      ∙ ap (λ n. Ok (record { code = rules.Code.stop; after = n; counts = c.args.counts })) c.in_ok-found.ensures.place
+      ∙ sym (rest_closed (text_of c.args.reader.now) c.args.left (closes c.args.close) (env_of c.args.env) (place_of c.args.reader.now) c.args.counts _ (sym c.in_ok-found.ensures.value) (sym c.is.ensures ∙ c.if-is.true));
+  text = c.in_ok-found.ensures.text;
   grown = record { inside = c.requires.some; larger = larger_self _ _ _ c.requires };
 }
 
-pub read-rest-returns-in-default : goal.read-rest-returns-in-default
-read-rest-returns-in-default t c = record {
-  value = sym (rest_strange (text_of c.args.reader.now) c.args.left (closes c.args.close) (env_of c.args.env) (place_of c.args.reader.now) c.args.counts _ (sym c.in-ok-found.ensures.value) (sym c.is.ensures ∙ c.if-is.false) (sym c.in-default.ensures));
-  text = c.in-ok-found.ensures.text;
+pub read_rest-returns-in_default : goal.read_rest-returns-in_default
+read_rest-returns-in_default t c = record {
+  value = sym (rest_strange (text_of c.args.reader.now) c.args.left (closes c.args.close) (env_of c.args.env) (place_of c.args.reader.now) c.args.counts _ (sym c.in_ok-found.ensures.value) (sym c.is.ensures ∙ c.if-is.false) (sym c.in_default.ensures));
+  text = c.in_ok-found.ensures.text;
   grown = tt;
 }
 
-pub read-rest-returns-then-counts-ge-MOST-STATEMENTS : goal.read-rest-returns-then-counts-ge-MOST-STATEMENTS
-read-rest-returns-then-counts-ge-MOST-STATEMENTS t c = record {
-  value = sym (rest_passed (text_of c.args.reader.now) c.args.left (closes c.args.close) (env_of c.args.env) (place_of c.args.reader.now) c.args.counts _ (sym c.in-ok-found.ensures.value) _ (sym c.is.ensures ∙ c.if-is.false) (sym c.in-Some.ensures)
-      c.if-counts-ge-MOST-STATEMENTS.true);
-  text = c.in-ok-found.ensures.text;
+pub read_rest-returns-then-counts-ge-MOST_STATEMENTS : goal.read_rest-returns-then-counts-ge-MOST_STATEMENTS
+read_rest-returns-then-counts-ge-MOST_STATEMENTS t c = record {
+  value = sym (rest_passed (text_of c.args.reader.now) c.args.left (closes c.args.close) (env_of c.args.env) (place_of c.args.reader.now) c.args.counts _ (sym c.in_ok-found.ensures.value) _ (sym c.is.ensures ∙ c.if-is.false) (sym c.in-Some.ensures)
+      c.if-counts-ge-MOST_STATEMENTS.true);
+  text = c.in_ok-found.ensures.text;
   grown = tt;
 }
 
-pub read-rest-returns-then-left-eq0 : goal.read-rest-returns-then-left-eq0
-read-rest-returns-then-left-eq0 t c = record {
-  value = sym (rest_spent (text_of c.args.reader.now) c.args.left (closes c.args.close) (env_of c.args.env) (place_of c.args.reader.now) c.args.counts _ (sym c.in-ok-found.ensures.value) _ (sym c.is.ensures ∙ c.if-is.false) (sym c.in-Some.ensures)
-      c.if-counts-ge-MOST-STATEMENTS.false c.if-left-eq0.true);
-  text = c.in-ok-found.ensures.text;
+pub read_rest-returns-then-left-eq0 : goal.read_rest-returns-then-left-eq0
+read_rest-returns-then-left-eq0 t c = record {
+  value = sym (rest_spent (text_of c.args.reader.now) c.args.left (closes c.args.close) (env_of c.args.env) (place_of c.args.reader.now) c.args.counts _ (sym c.in_ok-found.ensures.value) _ (sym c.is.ensures ∙ c.if-is.false) (sym c.in-Some.ensures)
+      c.if-counts-ge-MOST_STATEMENTS.false c.if-left-eq0.true);
+  text = c.in_ok-found.ensures.text;
   grown = tt;
 }
 
-pub read-rest-returns : goal.read-rest-returns
-read-rest-returns t c =
-    let text = c.in-ok-found.ensures.text in
+pub read_rest-returns : goal.read_rest-returns
+read_rest-returns t c =
+    let text = c.in_ok-found.ensures.text in
     let env = env_of c.args.env in
     let closed = closes c.args.close in
     record {
-      value = c.read-going.ensures.value
-          ∙ ap (λ u. going u (c.args.left - 1) closed env c.in-ok-found.found.place (place_of c.next.new.self) (begin c.args.counts) c.in-Some.opening) text
-          ∙ ap (λ n. going (text_of c.args.reader.now) (c.args.left - 1) closed env c.in-ok-found.found.place n (begin c.args.counts) c.in-Some.opening)
-          c.in-ok-found.ensures.place
-          ∙ sym (rest_begun (text_of c.args.reader.now) c.args.left (closes c.args.close) (env_of c.args.env) (place_of c.args.reader.now) c.args.counts _ (sym c.in-ok-found.ensures.value) _ (sym c.is.ensures ∙ c.if-is.false) (sym c.in-Some.ensures)
-          c.if-counts-ge-MOST-STATEMENTS.false c.if-left-eq0.false);
-      text = c.read-going.ensures.text ∙ text;
-      grown = c.read-going.ensures.grown;
+      value = c.read_going.ensures.value
+          ∙ ap (λ u. going u (c.args.left - 1) closed env c.in_ok-found.found.place (place_of c.next.new.self) (begin c.args.counts) c.in-Some.opening) text
+          ∙ ap (λ n. going (text_of c.args.reader.now) (c.args.left - 1) closed env c.in_ok-found.found.place n (begin c.args.counts) c.in-Some.opening)
+          c.in_ok-found.ensures.place
+          ∙ sym (rest_begun (text_of c.args.reader.now) c.args.left (closes c.args.close) (env_of c.args.env) (place_of c.args.reader.now) c.args.counts _ (sym c.in_ok-found.ensures.value) _ (sym c.is.ensures ∙ c.if-is.false) (sym c.in-Some.ensures)
+          c.if-counts-ge-MOST_STATEMENTS.false c.if-left-eq0.false);
+      text = c.read_going.ensures.text ∙ text;
+      grown = c.read_going.ensures.grown;
     }
 
-pub read-when-returns-in-err-two : goal.read-when-returns-in-err-two
-read-when-returns-in-err-two t c =
+pub read_when-returns-in_err-two : goal.read_when-returns-in_err-two
+read_when-returns-in_err-two t c =
     let text = text_of c.args.reader.now in
     let env = env_of c.args.env.now in
     let one = c.read_index.new.reader in
-    let mark = c.expect-mark.new.reader in
-    let other = c.read-index-2.new.reader in
-    let to_one = c.in-ok-one.ensures.text in
-    let to_mark = c.in-ok-expect-mark.ensures.text ∙ to_one in
-    let to_other : text_of other ≡ text = c.in-ok-other.ensures.text ∙ to_mark in
-    let before = rules.Code.when (index_of c.in-ok-one.one) (index_of c.in-ok-other.other) in
-    let p = err_from_is_err_and c.from-residual-in-err-two.result c.from-residual-in-err-two.ensures.1 in
+    let mark = c.expect_mark.new.reader in
+    let other = c.read_index-2.new.reader in
+    let to_one = c.in_ok-one.ensures.text in
+    let to_mark = c.in_ok-expect_mark.ensures.text ∙ to_one in
+    let to_other : text_of other ≡ text = c.in_ok-other.ensures.text ∙ to_mark in
+    let before = rules.Code.when (index_of c.in_ok-one.one) (index_of c.in_ok-other.other) in
+    let p = err_from_is_err_and c.from_residual-in_err-two.result c.from_residual-in_err-two.ensures.1 in
     rw (p.1, p.2) (record {
-      value = c.in-err-two.ensures.value before
+      value = c.in_err-two.ensures.value before
           ∙ ap (λ u. two_blocks (within u c.args.left) u env before (place_of other) c.args.counts) to_other
           ∙ sym (when_is (within text c.args.left) text env (place_of c.args.reader.now) c.args.counts _ _ _ (place_of mark)
-          (sym c.in-ok-one.ensures.value)
-          (ap (λ u. expect u (is_mark Equals) (place_of one)) (sym to_one) ∙ sym c.in-ok-expect-mark.ensures.value)
-          c.in-ok-expect-mark.ensures.place
-          (ap (λ u. read_index u env.plan env.scope (place_of mark)) (sym to_mark) ∙ sym c.in-ok-other.ensures.value));
-      text = c.in-err-two.ensures.text ∙ to_other;
+          (sym c.in_ok-one.ensures.value)
+          (ap (λ u. expect u (is_mark Equals) (place_of one)) (sym to_one) ∙ sym c.in_ok-expect_mark.ensures.value)
+          c.in_ok-expect_mark.ensures.place
+          (ap (λ u. read_index u env.plan env.scope (place_of mark)) (sym to_mark) ∙ sym c.in_ok-other.ensures.value));
+      text = c.in_err-two.ensures.text ∙ to_other;
       grown = tt;
     })
 
-pub read-when-returns : goal.read-when-returns
-read-when-returns t c =
+pub read_when-returns : goal.read_when-returns
+read_when-returns t c =
     let text = text_of c.args.reader.now in
     let env = env_of c.args.env.now in
     let one = c.read_index.new.reader in
-    let mark = c.expect-mark.new.reader in
-    let other = c.read-index-2.new.reader in
-    let to_one = c.in-ok-one.ensures.text in
-    let to_mark = c.in-ok-expect-mark.ensures.text ∙ to_one in
-    let to_other : text_of other ≡ text = c.in-ok-other.ensures.text ∙ to_mark in
-    let two = c.in-ok-two.ensures.grown in
-    let before = rules.Code.when (index_of c.in-ok-one.one) (index_of c.in-ok-other.other) in
+    let mark = c.expect_mark.new.reader in
+    let other = c.read_index-2.new.reader in
+    let to_one = c.in_ok-one.ensures.text in
+    let to_mark = c.in_ok-expect_mark.ensures.text ∙ to_one in
+    let to_other : text_of other ≡ text = c.in_ok-other.ensures.text ∙ to_mark in
+    let two = c.in_ok-two.ensures.grown in
+    let before = rules.Code.when (index_of c.in_ok-one.one) (index_of c.in_ok-other.other) in
     record {
-      value = c.in-ok-two.ensures.value before
+      value = c.in_ok-two.ensures.value before
           ∙ ap (λ u. two_blocks (within u c.args.left) u env before (place_of other) c.args.counts) to_other
           ∙ sym (when_is (within text c.args.left) text env (place_of c.args.reader.now) c.args.counts _ _ _ (place_of mark)
-          (sym c.in-ok-one.ensures.value)
-          (ap (λ u. expect u (is_mark Equals) (place_of one)) (sym to_one) ∙ sym c.in-ok-expect-mark.ensures.value)
-          c.in-ok-expect-mark.ensures.place
-          (ap (λ u. read_index u env.plan env.scope (place_of mark)) (sym to_mark) ∙ sym c.in-ok-other.ensures.value));
-      text = c.in-ok-two.ensures.text ∙ to_other;
+          (sym c.in_ok-one.ensures.value)
+          (ap (λ u. expect u (is_mark Equals) (place_of one)) (sym to_one) ∙ sym c.in_ok-expect_mark.ensures.value)
+          c.in_ok-expect_mark.ensures.place
+          (ap (λ u. read_index u env.plan env.scope (place_of mark)) (sym to_mark) ∙ sym c.in_ok-other.ensures.value));
+      text = c.in_ok-two.ensures.text ∙ to_other;
       grown = record { fits = two_blocks_fit _ _ _ two.first two.second (omega (arith, c.requires.some, two.larger.stays.longer)); larger = two.larger };
     }

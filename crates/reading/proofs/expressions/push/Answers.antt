@@ -8,7 +8,7 @@ use Rattle.reading.proofs.expressions.push.Goals as goal
 pub returns-in-Some : goal.returns-in-Some
 returns-in-Some c =
     let es = exprs_of c.args.script.now in
-    let is = exprs_of c.push-expr.new.self in
+    let is = exprs_of c.push_expr.new.self in
     let x = expr_of es c.args.node in
     let e = pushed_is es is x _ c.in-Some.ensures.exprs c.requires in
     let here = at_is c.in-Some.at _ _ c.in-Some.ensures.value c.requires in

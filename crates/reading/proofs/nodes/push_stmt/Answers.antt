@@ -8,7 +8,7 @@ use Rattle.reading.proofs.nodes.push_stmt.Goals as goal
 pub returns-in-Some : goal.returns-in-Some
 returns-in-Some c =
     let cs = codes_of c.args.script.now in
-    let is = codes_of c.push-stmt.new.self in
+    let is = codes_of c.push_stmt.new.self in
     let x = code_of (exprs_of c.args.script.now) cs c.args.node in
     let e = pushed_is cs is x _ c.in-Some.ensures.codes c.requires in
     let here = at_is c.in-Some.block _ _ c.in-Some.ensures.value c.requires in

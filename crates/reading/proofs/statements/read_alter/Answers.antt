@@ -11,20 +11,20 @@ use Rattle.reading.proofs.statements.read_alter.Goals as goal
 
 pub returns : goal.returns
 returns c =
-    let grown = c.in-ok-change.ensures.grown in
+    let grown = c.in_ok-change.ensures.grown in
     let text = text_of c.args.reader.now in
     let to = c.read_target.new.reader in
-    let was = c.in-ok-target.ensures.text in
-    let then = c.in-ok-change.ensures.text in
+    let was = c.in_ok-target.ensures.text in
+    let then = c.in_ok-change.ensures.text in
     record {
       value = sym (alter_is text (env_of c.args.env.now) c.args.place (place_of c.args.reader.now) c.args.counts _ _ _ _
-          (sym c.in-ok-target.ensures.value)
-          (ap (λ t. read_change t (visited (env_of c.args.env.now) c.in-ok-target.target.word.now c.in-ok-target.target.lot.table) (place_of to) c.args.counts) (sym was)
+          (sym c.in_ok-target.ensures.value)
+          (ap (λ t. read_change t (visited (env_of c.args.env.now) c.in_ok-target.target.word.now c.in_ok-target.target.lot.table) (place_of to) c.args.counts) (sym was)
           ∙ ap (λ v. read_change (text_of to) v (place_of to) c.args.counts) (sym c.visit-inner.ensures)
-          ∙ sym c.in-ok-change.ensures.value)
+          ∙ sym c.in_ok-change.ensures.value)
           (ap (λ t. expect t (is_mark Semicolon) (place_of c.read_change.new.reader)) (sym (then ∙ was))
-          ∙ sym c.in-ok-expect-mark.ensures.value)
-          c.in-ok-expect-mark.ensures.place);
+          ∙ sym c.in_ok-expect_mark.ensures.value)
+          c.in_ok-expect_mark.ensures.place);
       text = search rules;
       grown = record {
         fits = two_fit _ _ _ _ grown.value grown.condition c.requires.some;

@@ -1,4 +1,4 @@
 use Rattle.reading.proofs.values.+read_values.Given as goal
 
-abbrev pub decreases-read-values : goal.decreases-read-values
-decreases-read-values l = l.more
+abbrev pub decreases-read_values : goal.decreases-read_values
+decreases-read_values l = l.more

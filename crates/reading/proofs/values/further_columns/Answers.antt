@@ -7,6 +7,6 @@ pub returns : goal.returns
 returns c =
     let few = few_columns (plan_of c.args.plan.now) c.args.plan.now.kept c.args.table in
     record {
-      value = c.saturating-sub.ensures ∙ ap (λ n. n - 1) c.width-of.ensures;
-      few = omega (arith, few, c.width-of.ensures, c.saturating-sub.ensures);
+      value = c.saturating_sub.ensures ∙ ap (λ n. n - 1) c.width_of.ensures;
+      few = omega (arith, few, c.width_of.ensures, c.saturating_sub.ensures);
     }
