@@ -3,7 +3,7 @@
 mod tests {
     use crate::small::{push, push_expr, three_vendors};
     use inplace::ArrayVec;
-    use judge::explain;
+    use explain::explain;
     use lattice::Compartments;
     use script::{Expr, Index, Mark, Op, Script, Stmt};
     use std::process::Abort;
