@@ -26,19 +26,19 @@ impl<'a, L: Lattice> Closed<'a, L> {
         place: u32,
         column: u32,
     ) -> Result<u32, Refusal>
-        ensures { looked result ≡ answered (answers (lattice_of (was_live self.now))) (was_live self.now) (Call.look clearance table vendor place column) }
+        ensures { looked result ≡ answered (L.answers (lattice_of (was_live self.now))) (was_live self.now) (Call.look clearance table vendor place column) }
     {
         self.live.look(clearance, table, vendor, place, column)
     }
 
     pub fn count(&self, clearance: u64, table: u32, vendor: u32) -> Result<RowCount, Refusal>
-        ensures { counted result ≡ answered (answers (lattice_of (was_live self.now))) (was_live self.now) (Call.count clearance table vendor) }
+        ensures { counted result ≡ answered (L.answers (lattice_of (was_live self.now))) (was_live self.now) (Call.count clearance table vendor) }
     {
         self.live.count(clearance, table, vendor)
     }
 
     pub fn meter(&self, clearance: u64) -> Result<u32, Refusal>
-        ensures { metered result ≡ answered (answers (lattice_of (was_live self.now))) (was_live self.now) (Call.meter clearance) }
+        ensures { metered result ≡ answered (L.answers (lattice_of (was_live self.now))) (was_live self.now) (Call.meter clearance) }
     {
         self.live.meter(clearance)
     }

@@ -34,8 +34,8 @@ impl<'a, L: Lattice> Live<'a, L> {
 
     // Puts a row in front of a lot.
     pub fn post(&mut self, table: u32, vendor: u32, values: &[u32]) -> Result<(), Refusal>
-        ensures answer { posted result ≡ answered (answers (lattice_of self.old)) self.old (Call.post table vendor values.now) }
-        ensures after { bench_of self.new ≡ left (answers (lattice_of self.old)) self.old (Call.post table vendor values.now) }
+        ensures answer { posted result ≡ answered (L.answers (lattice_of self.old)) self.old (Call.post table vendor values.now) }
+        ensures after { bench_of self.new ≡ left (L.answers (lattice_of self.old)) self.old (Call.post table vendor values.now) }
         ensures plan { plan_of self.new ≡ plan_of self.old }
         ensures lattice { lattice_of self.new ≡ lattice_of self.old }
     {
@@ -44,8 +44,8 @@ impl<'a, L: Lattice> Live<'a, L> {
 
     // Puts the script of a text into a slot, and answers its figure. A text that is sent back leaves the slot as it was.
     pub fn admit(&mut self, slot: u32, text: &[u8]) -> Result<u32, Refusal>
-        ensures answer { figured result ≡ answered (answers (lattice_of self.old)) self.old (Call.admit slot text.now) }
-        ensures after { bench_of self.new ≡ left (answers (lattice_of self.old)) self.old (Call.admit slot text.now) }
+        ensures answer { figured result ≡ answered (L.answers (lattice_of self.old)) self.old (Call.admit slot text.now) }
+        ensures after { bench_of self.new ≡ left (L.answers (lattice_of self.old)) self.old (Call.admit slot text.now) }
         ensures plan { plan_of self.new ≡ plan_of self.old }
         ensures lattice { lattice_of self.new ≡ lattice_of self.old }
     {
@@ -54,8 +54,8 @@ impl<'a, L: Lattice> Live<'a, L> {
 
     // Runs the script in a slot for a vendor, sets the meter to its steps, and answers its figure.
     pub fn run(&mut self, slot: u32, vendor: u32) -> Result<u32, Refusal>
-        ensures answer { figured result ≡ answered (answers (lattice_of self.old)) self.old (Call.run slot vendor) }
-        ensures after { bench_of self.new ≡ left (answers (lattice_of self.old)) self.old (Call.run slot vendor) }
+        ensures answer { figured result ≡ answered (L.answers (lattice_of self.old)) self.old (Call.run slot vendor) }
+        ensures after { bench_of self.new ≡ left (L.answers (lattice_of self.old)) self.old (Call.run slot vendor) }
         ensures plan { plan_of self.new ≡ plan_of self.old }
         ensures lattice { lattice_of self.new ≡ lattice_of self.old }
     {
@@ -71,7 +71,7 @@ impl<'a, L: Lattice> Live<'a, L> {
         place: u32,
         column: u32,
     ) -> Result<u32, Refusal>
-        ensures { looked result ≡ answered (answers (lattice_of self.now)) self.now (Call.look clearance table vendor place column) }
+        ensures { looked result ≡ answered (L.answers (lattice_of self.now)) self.now (Call.look clearance table vendor place column) }
     {
         self.state
             .look(self.lattice, clearance, table, vendor, place, column)
@@ -79,14 +79,14 @@ impl<'a, L: Lattice> Live<'a, L> {
 
     // The rows of a lot, and how many it has lost.
     pub fn count(&self, clearance: u64, table: u32, vendor: u32) -> Result<RowCount, Refusal>
-        ensures { counted result ≡ answered (answers (lattice_of self.now)) self.now (Call.count clearance table vendor) }
+        ensures { counted result ≡ answered (L.answers (lattice_of self.now)) self.now (Call.count clearance table vendor) }
     {
         self.state.count(self.lattice, clearance, table, vendor)
     }
 
     // The steps of the newest run.
     pub fn meter(&self, clearance: u64) -> Result<u32, Refusal>
-        ensures { metered result ≡ answered (answers (lattice_of self.now)) self.now (Call.meter clearance) }
+        ensures { metered result ≡ answered (L.answers (lattice_of self.now)) self.now (Call.meter clearance) }
     {
         self.state.meter(self.lattice, clearance)
     }

@@ -81,7 +81,7 @@ impl State {
         else {
             return Err(Refusal::NoSuchRow);
         };
-        Ok(row.get_or(column as usize, 0))
+        Ok(row.cell(column as usize))
     }
 
     // The rows of a lot, and how many it has lost.

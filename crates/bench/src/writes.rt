@@ -9,7 +9,7 @@ ghost use Rattle.bench.specs.Answers.{posted, figured};
 use crate::reads::{check_lot, width};
 use crate::state::State;
 use admission::admit;
-use inplace::ArrayVec;
+use lots::Row;
 use lattice::Lattice;
 use rules::Refusal;
 
@@ -29,7 +29,7 @@ impl State {
         if self.store.is_full(table as usize, vendor as usize) {
             return Err(Refusal::LotFull);
         }
-        let row = ArrayVec::from_slice(0, values);
+        let row = Row::from_slice(values);
         self.store.add(table as usize, vendor as usize, row);
         Ok(())
     }

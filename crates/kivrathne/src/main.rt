@@ -1,4 +1,5 @@
 // The program: it plays call files on a bench and prints the answers.
+#![tactic(auto)]
 mod batch;
 mod help;
 mod map;

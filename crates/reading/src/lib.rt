@@ -1,4 +1,5 @@
 // Reads a script's text over a plan.
+#![tactic(auto)]
 mod blocks;
 mod env;
 mod expressions;

@@ -1,4 +1,6 @@
 // Texts of bytes cut into parts, and numbers read from them.
+#![tactic(auto)]
+
 pub mod cuts;
 pub mod numbers;
 

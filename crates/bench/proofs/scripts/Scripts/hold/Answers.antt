@@ -4,8 +4,8 @@ use Rattle.bench.specs.Plans.{plan_under}
 use Rattle.bench.proofs.SlotWrites.{still_runnable}
 use Rattle.bench.proofs.scripts.Scripts.hold.Goals as goal
 
-pub invariant-of-self : goal.invariant-of-self
-invariant-of-self c =
+pub invariant_of-self : goal.invariant_of-self
+invariant_of-self c =
     let s = c.args.self.now in
     let new = Held c.args.admitted in
-    (length-set s.slots c.args.slot new ∙ s.whole, (still_runnable (plan_under s) s.slots c.args.slot new s.held c.requires.1, tt))
+    record { whole = length-set s.slots c.args.slot new ∙ s.whole; held = still_runnable (plan_under s) s.slots c.args.slot new s.held c.requires.1 }

@@ -11,31 +11,31 @@ use Rattle.bench.proofs.SlotWrites.{slot_put}
 use Rattle.bench.proofs.Admitting.{admitted_runs, admit_refused, admit_taken}
 use Rattle.bench.proofs.state.State.admit.Goals as goal
 
-pub returns-then-slot-gt-LAST-SLOT : goal.returns-then-slot-gt-LAST-SLOT
+pub returns-then-slot-gt-LAST_SLOT : goal.returns-then-slot-gt-LAST_SLOT
 unfolding outcome
-returns-then-slot-gt-LAST-SLOT g c = record { answer = search rules; after = search rules; same = search rules }
+returns-then-slot-gt-LAST_SLOT g c = record { answer = search rules; after = search rules; same = search rules }
 
-pub returns-in-err-admitted : goal.returns-in-err-admitted
-returns-in-err-admitted g c =
+pub returns-in_err-admitted : goal.returns-in_err-admitted
+returns-in_err-admitted g c =
     let o = g.L.Lattice.answers c.args.lattice.now in
     let s = c.args.self.now in
     let plan = plan_in s in
-    let out = admit_refused o (admits o plan) plan (bench_in s) c.args.slot c.if-slot-gt-LAST-SLOT.false c.args.text.now _ c.in-err-admitted.ensures in
+    let out = admit_refused o (admits o plan) plan (bench_in s) c.args.slot c.if-slot-gt-LAST_SLOT.false c.args.text.now _ c.in_err-admitted.ensures in
     record { answer = search rules; after = search rules; same = search rules }
 
 pub hold-requires : goal.hold-requires
 hold-requires g c =
     let o = g.L.Lattice.answers c.args.lattice.now in
     let s = c.args.self.now in
-    (omega arith, admitted_runs o (plan_in s) s.scripts.plan.kept c.args.text.now (held_script c.in-ok-admitted.admitted) (sym c.in-ok-admitted.ensures))
+    (omega arith, admitted_runs o (plan_in s) s.scripts.plan.kept c.args.text.now (held_script c.in_ok-admitted.admitted) (sym c.in_ok-admitted.ensures))
 
 pub returns : goal.returns
 returns g c =
     let o = g.L.Lattice.answers c.args.lattice.now in
     let s = c.args.self.now in
     let plan = plan_in s in
-    let new = c.in-ok-admitted.admitted in
-    let out = admit_taken o (admits o plan) plan (bench_in s) c.args.slot c.if-slot-gt-LAST-SLOT.false c.args.text.now (held_script new) c.in-ok-admitted.ensures in
+    let new = c.in_ok-admitted.admitted in
+    let out = admit_taken o (admits o plan) plan (bench_in s) c.args.slot c.if-slot-gt-LAST_SLOT.false c.args.text.now (held_script new) c.in_ok-admitted.ensures in
     let low : c.args.slot < length s.scripts.slots = omega (arith, s.scripts.whole) in
     record {
       answer = sym (ap reply_of out);

@@ -2,9 +2,9 @@ use Rattle.std.proofs.Common.{rules}
 use Rattle.rules.specs.Calls.{outcome}
 use Rattle.bench.proofs.state.State.meter.Goals as goal
 
-pub returns-then-not-is-label : goal.returns-then-not-is-label
+pub returns-then-not-is_label : goal.returns-then-not-is_label
 unfolding outcome
-returns-then-not-is-label g c = search rules
+returns-then-not-is_label g c = search rules
 
 pub returns-then-not-below : goal.returns-then-not-below
 unfolding outcome
