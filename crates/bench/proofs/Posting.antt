@@ -8,7 +8,7 @@ use Rattle.rules.specs.declared.answer.Answer.TheVariants.{Done}
 use Rattle.rules.specs.Guards.{guard}
 use Rattle.rules.specs.Pairs.{Pair}
 use Rattle.rules.specs.Plans.{Plan, sound}
-use Rattle.rules.specs.Lots.{Lot, width, room, put_lot, enter_row}
+use Rattle.rules.specs.Lots.{Lot, width, room, put_lot}
 use Rattle.rules.specs.Admission.{Admission}
 use Rattle.rules.specs.Calls.{Bench, outcome, with_row}
 use Rattle.rules.specs.Calls.Call.{post}

@@ -1,5 +1,5 @@
 -- What every table of a sound plan keeps.
-use Rattle.std.proofs.Common.{◌≡◌, ℕ, zero, suc, ◌≤◌, true, not, ◌&&◌, eqb, leb, List, [], ◌∷◌, length, get_or, arith}
+use Rattle.std.proofs.Common.{◌≡◌, ℕ, zero, suc, ◌≤◌, true, not, eqb, leb, List, [], ◌∷◌, length, get_or, arith}
 use Rattle.std.proofs.lemmas.Bool.{and_parts, leb-true}
 use Rattle.rules.specs.Pairs.{Pair, end, laid, pair_at}
 use Rattle.rules.specs.Plans.{Plan, Table, sound, sound_table, sound_tables, families_above}

@@ -1,5 +1,6 @@
 // The bench: live, with its six calls, and closed, with the reads alone.
 #![tactic(auto)]
+
 pub mod closed;
 pub mod holding;
 pub mod live;

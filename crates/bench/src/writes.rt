@@ -9,8 +9,8 @@ ghost use Rattle.bench.specs.Answers.{posted, figured};
 use crate::reads::{check_lot, width};
 use crate::state::State;
 use admission::admit;
-use lots::Row;
 use lattice::Lattice;
+use lots::Row;
 use rules::Refusal;
 
 const LAST_SLOT: u32 = 3;

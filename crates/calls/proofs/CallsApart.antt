@@ -1,10 +1,8 @@
 -- Calls of the code that stand for one call have the same fields.
-use Rattle.std.proofs.Common.{◌≡◌, ℕ, List, ap, subst, arith}
+use Rattle.std.proofs.Common.{◌≡◌, ℕ, ap, subst, arith}
 use Rattle.rules.specs.Calls as rules
 use Rattle.rules.specs.Calls.Call.{post, admit, run, look, count, meter}
-use Rattle.calls.specs.declared.call.Call.{Call}
 use Rattle.calls.specs.declared.call.Call.TheVariants.{Post, Admit, Run, Look, Count, Meter}
-use Rattle.calls.specs.Meaning.{call_of}
 use Rattle.calls.specs.Told.{SameCall, CallsToldApart}
 use Rattle.calls.specs.Told.SameCall.{posts, admits, runs, looks, counts, meters}
 

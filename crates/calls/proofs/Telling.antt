@@ -1,11 +1,11 @@
 -- Each refusal and each answer is got back from what it tells.
-use Rattle.std.proofs.Common.{◌≡◌, ℕ, cond, eqb, List, [], ◌∷◌, get_or, sym, refl, ap, ◌∙◌, ap₂}
+use Rattle.std.proofs.Common.{◌≡◌, ℕ, cond, eqb, List, get_or, sym, refl, ap, ◌∙◌, ap₂}
 use Rattle.rules.specs.declared.refusal.Refusal.{Refusal}
 use Rattle.rules.specs.declared.refusal.Refusal.TheVariants.{VendorCount, VendorCountFixed, TooManyTables, ColumnCount, FamilyTooHigh, PairCount, PairRule, ClearanceNoLabel, NoSuchTable, NoSuchVendor, NoSuchColumn, ValueCount, NotCleared, NoSuchRow, LotFull, NoSuchSlot, SlotEmpty, TextTooLong, NoToken, Unexpected, WrongName, NameTaken, OutsidePlan, ExpressionCount, WrittenInEach, LimitPassed, FlowNotAllowed, FigureTooHigh}
 use Rattle.rules.specs.declared.answer.Answer.{Answer}
 use Rattle.rules.specs.declared.answer.Answer.TheVariants.{Done, Figure, Cell, Rows, Steps, Refused}
 use Rattle.rules.specs.Refusals.{number, place}
-use Rattle.calls.specs.Told.{Told, told, place_told, RefusalsToldApart, AnswersToldApart}
+use Rattle.calls.specs.Told.{told, place_told, RefusalsToldApart, AnswersToldApart}
 
 -- The refusal of a number, at a place.
 abbrev refusal_of : ℕ → ℕ → Refusal

@@ -1,6 +1,7 @@
 // Calls as values: lists of calls, when two of them agree at a label, which answers are heard there, and whether two plans
 // or two lists of answers are the same.
 #![tactic(auto)]
+
 pub mod agreement;
 pub mod call;
 pub mod hearing;

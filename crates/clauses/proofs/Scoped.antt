@@ -1,17 +1,14 @@
 -- The names in scope, as the code holds them: oldest first.
-use Rattle.std.proofs.Common.{◌≡◌, ℕ, ◌+◌, ◌<◌, ◌≤◌, Bool, true, false, cond, ◌||◌, ltb, List, [], ◌∷◌, ◌++◌, length, get_or, take, Some, None, Decides, Option, sym, refl, ap, ◌∙◌, arith}
-use Rattle.std.specs.Option.{option_map}
+use Rattle.std.proofs.Common.{◌≡◌, ℕ, ◌+◌, ◌<◌, ◌≤◌, Bool, true, false, cond, ◌||◌, ltb, List, [], ◌∷◌, ◌++◌, length, get_or, take, Some, Decides, sym, refl, ap, ◌∙◌, arith}
 use Rattle.std.specs.Str.{bytes_eq}
-use Rattle.std.proofs.lemmas.Bool.Decides.{nat_tests, same_from_decides}
+use Rattle.std.proofs.lemmas.Bool.Decides.{same_from_decides}
 use Rattle.std.proofs.lemmas.List.{take_more, length-take-le}
 use Rattle.std.proofs.lemmas.Slice.Eq.{bytes_eq-Decides}
-use Rattle.grammar.specs.Scopes as grammar
 use Rattle.grammar.specs.Scopes.{Scope, look_up}
 use Rattle.grammar.specs.Clauses.{walks, walked}
 use Rattle.grammar.specs.Spelling.{this_or}
 use Rattle.clauses.specs.declared.names.Name.{Name}
-use Rattle.clauses.specs.declared.names.Bound.{Bound}
-use Rattle.clauses.specs.Names.{named_of, newest_first, with_name, bound_of}
+use Rattle.clauses.specs.Names.{named_of, newest_first, with_name}
 
 pub newest_more : (ns : List Name) (n : Name) (outer : Scope) → newest_first (ns ++ n ∷ []) outer ≡ named_of n ∷ newest_first ns outer
 newest_more [] n outer = refl

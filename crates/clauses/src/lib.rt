@@ -1,6 +1,7 @@
 // The parts of a script's statements that ask nothing of the rest: tokens that are due, names in scope, and indexes, lots,
 // labels and columns. Each is read as the grammar defines it.
 #![tactic(auto)]
+
 pub mod names;
 pub mod parts;
 pub mod steps;

@@ -5,8 +5,8 @@ ghost use Rattle.grammar.specs.Scopes.{look_up, may_make, use_name, most_names};
 ghost use Rattle.grammar.specs.Clauses.{walks, walked};
 ghost use Rattle.clauses.specs.Names.{bound_of, bound_result, scope_of, with_name, asks};
 
-use inplace::ArrayVec;
 use grammar::{NameKind, Refusal};
+use inplace::ArrayVec;
 
 // A name: its letters, which are part of the text, and what it stands for.
 #[derive(Clone, Copy)]

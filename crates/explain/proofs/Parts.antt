@@ -1,5 +1,5 @@
 -- A result from what its parts are.
-use Rattle.std.proofs.Common.{◌≡◌, ℕ, ◌⊎◌, List, sym, refl, ap, ◌∙◌, inl, inr}
+use Rattle.std.proofs.Common.{◌≡◌, ℕ, ◌⊎◌, List, ap, ◌∙◌, inl, inr}
 use Rattle.lattice.specs.Order.{Order}
 use Rattle.rules.specs.Plans.{Plan}
 use Rattle.rules.specs.Scripts as rules

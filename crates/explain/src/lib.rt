@@ -1,5 +1,6 @@
 // Judging a script: whether each of its flows is allowed at every valuation, under any lattice of labels.
 #![tactic(auto)]
+
 pub mod broken;
 pub mod context;
 pub mod flows;

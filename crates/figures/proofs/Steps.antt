@@ -1,5 +1,5 @@
 -- The figure by its parts: what the parts' caps leave of it.
-use Rattle.std.proofs.Common.{◌≡◌, ℕ, zero, suc, ◌+◌, ◌*◌, ◌<◌, ◌≤◌, min, max, ◌⊎◌, List, map, length, get_or, sym, refl, ap, ◌∙◌, inl, inr, mul-le-mul_right, mul-le-mul_left, one-mul, zero-mul, arith}
+use Rattle.std.proofs.Common.{◌≡◌, ℕ, zero, suc, ◌+◌, ◌*◌, ◌<◌, ◌≤◌, min, ◌⊎◌, List, map, length, get_or, sym, ap, ◌∙◌, inl, inr, mul-le-mul_right, mul-le-mul_left, zero-mul, arith}
 use Rattle.std.proofs.lemmas.List.{get_or-map}
 use Rattle.rules.specs.Plans as rules
 use Rattle.rules.specs.Scripts as scripts

@@ -1,5 +1,6 @@
 // The figure of a script: a number of steps that no run of it passes, from the script and the plan alone.
 #![tactic(auto)]
+
 ghost use Rattle.std.specs.Prelude.{◌≡◌, ◌+◌, ◌*◌, ◌^◌, ◌<◌, ◌≤◌, min, map};
 ghost use Rattle.layout.specs.Pairs.{pair_of};
 ghost use Rattle.layout.specs.Plans.{plan_of};

@@ -8,7 +8,7 @@ use Rattle.rules.specs.declared.refusal.Refusal.TheVariants.{NoToken}
 use Rattle.rules.specs.Guards.{guard}
 use Rattle.grammar.specs.declared.keywords.Keyword.{Keyword}
 use Rattle.grammar.specs.declared.marks.Mark.{Mark}
-use Rattle.grammar.specs.Spelling.{byte, keyword_of, mark_of}
+use Rattle.grammar.specs.Spelling.{keyword_of, mark_of}
 use Rattle.grammar.specs.Tokens.{Token, keyword, mark, name, number, end, blank, letter, digit, run, word, found, leading_zero, read, read_word, read_number, read_mark, past_blanks, token_at}
 use Rattle.grammar.specs.TokenRule.{part, Stretch, Longest, Is, Right, ReadingIsTheRule}
 use Rattle.grammar.proofs.Runs.{length_run, part_is_run}

@@ -6,7 +6,7 @@ use Rattle.std.proofs.lemmas.Bool.{or_parts, or_from, and_left, and_right, eqb-t
 use Rattle.std.proofs.lemmas.Bool.Decides.{nat_tests}
 use Rattle.rules.specs.declared.refusal.Refusal.TheVariants.{NoToken}
 use Rattle.rules.specs.Guards.{guard}
-use Rattle.grammar.specs.Spelling.{byte, keyword_of, mark_of}
+use Rattle.grammar.specs.Spelling.{keyword_of, mark_of}
 use Rattle.grammar.specs.Tokens.{Token, keyword, mark, name, number, end, blank, letter, digit, run, found, leading_zero, read, read_number, read_mark, token_at}
 use Rattle.grammar.specs.TokenRule.{part, Stretch, Longest, Is}
 use Rattle.grammar.proofs.Runs.{length_run, part_is_run}

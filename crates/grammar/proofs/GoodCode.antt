@@ -1,14 +1,14 @@
 -- What is kept when a statement is put in front of the rest of its block.
-use Rattle.std.proofs.Common.{◌≡◌, ℕ, zero, suc, ◌<◌, ◌≤◌, Bool, true, false, not, ◌&&◌, ◌||◌, eqb, ltb, leb, List, [], ◌∷◌, ◌++◌, length, sym, refl, ap, ◌∙◌, subst, arith}
+use Rattle.std.proofs.Common.{◌≡◌, ℕ, suc, ◌<◌, ◌≤◌, Bool, true, false, not, ◌&&◌, ◌||◌, eqb, ltb, List, [], ◌∷◌, ◌++◌, length, sym, refl, ap, ◌∙◌, arith}
 use Rattle.std.specs.List.{AllByRecursion as All}
 use Rattle.std.proofs.ByRecursion.{All-weaker, All-append}
-use Rattle.std.proofs.lemmas.Bool.{and_from, lt-ltb, or_from, or_left, or_right, eq-eqb, ne_eqb, cases_Bool, eqb-true, true≢false}
+use Rattle.std.proofs.lemmas.Bool.{and_from, lt-ltb, or_from, or_left, or_right, eq-eqb, ne_eqb, true≢false}
 use Rattle.rules.specs.Plans.{Plan}
 use Rattle.rules.specs.Lots.{width}
 use Rattle.rules.specs.Scripts as rules
 use Rattle.rules.specs.Scripts.{Index, Mark, Expr, Code}
 use Rattle.rules.specs.Scoping.{scoped, nameable, index_scoped, mark_scoped, expr_scoped, exprs_scoped}
-use Rattle.rules.specs.Inside.{inside, lot_inside, index_inside}
+use Rattle.rules.specs.Inside.{inside, lot_inside}
 use Rattle.rules.specs.Writes.{writes, steady}
 use Rattle.rules.specs.Keeping.{code_fits, expr_fits, exprs_fit}
 use Rattle.rules.specs.Judging.{places, Rising}

@@ -1,25 +1,24 @@
 -- What the parts of a statement have: they move on within the text, and what they name is in scope and inside the plan.
-use Rattle.std.proofs.Common.{◌≡◌, ℕ, zero, suc, ◌+◌, ◌-◌, ◌<◌, ◌≤◌, Bool, true, false, not, ◌&&◌, eqb, ltb, leb, List, [], ◌∷◌, length, Some, None, Ok, Option, Result, sym, refl, ap, ◌∙◌, arith}
+use Rattle.std.proofs.Common.{◌≡◌, ℕ, zero, suc, ◌+◌, ◌<◌, ◌≤◌, Bool, true, false, ◌&&◌, leb, List, length, Some, None, Ok, Option, Result, refl, arith}
 use Rattle.rules.specs.declared.refusal.Refusal.{Refusal}
 use Rattle.rules.specs.declared.refusal.Refusal.TheVariants.{NameTaken, LimitPassed}
 use Rattle.rules.specs.Guards.{guard}
 use Rattle.std.proofs.lemmas.Bool.{leb-false, lt-ltb, le-leb, and_from}
 use Rattle.rules.specs.Plans.{Plan}
-use Rattle.rules.specs.Lots.{last_word, width}
+use Rattle.rules.specs.Lots.{last_word}
 use Rattle.rules.specs.Scripts as rules
-use Rattle.rules.specs.Scoping.{index_scoped, mark_scoped, expr_scoped, exprs_scoped}
+use Rattle.rules.specs.Scoping.{index_scoped, mark_scoped, expr_scoped}
 use Rattle.rules.specs.Inside.{index_inside}
-use Rattle.rules.specs.Keeping.{expr_fits, exprs_fit}
-use Rattle.grammar.specs.declared.keywords.Keyword.TheVariants.{Me, Open}
-use Rattle.grammar.specs.declared.marks.Mark.TheVariants.{OpenBracket, CloseBracket, OpenParen, CloseParen, AtSign, Dot}
+use Rattle.rules.specs.Keeping.{expr_fits}
+use Rattle.grammar.specs.declared.marks.Mark.TheVariants.{OpenBracket, CloseBracket, CloseParen, AtSign, Dot}
 use Rattle.grammar.specs.declared.scopes.NameKind.{NameKind}
 use Rattle.grammar.specs.declared.scopes.NameKind.TheVariants.{Variable, Index, Cursor}
-use Rattle.grammar.specs.Tokens.{Token, keyword, mark, name, number, end, Found, token_at, is_mark, is_keyword, next_is}
-use Rattle.grammar.specs.TokenRule.{Lies, Is, Next}
+use Rattle.grammar.specs.Tokens.{Token, keyword, mark, name, number, end, Found, token_at, is_mark, next_is}
+use Rattle.grammar.specs.TokenRule.{Is}
 use Rattle.grammar.specs.Scopes.{Scope, Bound, look_up, use_name, of_kind, may_make, in_scope, is_index, is_cursor, has_value}
-use Rattle.grammar.specs.Steps.{Part, Seen, unexpected, expect, name_in, a_name, number_in, a_number}
+use Rattle.grammar.specs.Steps.{Part, Seen, expect, name_in, a_name, number_in, a_number}
 use Rattle.grammar.specs.Clauses.{index_in, read_index, read_owner, Lot, walked, read_table, read_lot, label_in, read_label}
-use Rattle.grammar.specs.Expressions.{Term, count_atom, atom, value_of, valued, cursor_table, read_column, cell_atom, plain_atom, name_atom, op_found, op_in, read_op, pair_with, term_in, term_with, one_deeper, too_deep, read_expr}
+use Rattle.grammar.specs.Expressions.{Term, count_atom, atom, value_of, valued, cursor_table, read_column, name_atom, op_found, op_in, read_op, term_in, term_with, one_deeper, too_deep, read_expr}
 use Rattle.grammar.proofs.TokenLaws.{next_read, tokens_lie_within}
 use Rattle.grammar.proofs.ScopeLaws.{found_names_are_there}
 use Rattle.grammar.proofs.Gives.{Gives, done, sent, chain, past}

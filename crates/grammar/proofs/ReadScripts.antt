@@ -1,5 +1,5 @@
 -- What every script that is read has, statement by statement.
-use Rattle.std.proofs.Common.{◌≡◌, ℕ, zero, suc, ◌+◌, ◌-◌, ◌<◌, ◌≤◌, Bool, true, false, ◌&&◌, ◌||◌, eqb, ltb, leb, List, [], ◌∷◌, ◌++◌, length, get_or, Some, None, Ok, Err, Option, Result, sym, refl, ap, ◌∙◌, subst, arith}
+use Rattle.std.proofs.Common.{◌≡◌, ℕ, zero, suc, ◌+◌, ◌-◌, ◌<◌, ◌≤◌, Bool, true, false, ◌&&◌, ◌||◌, eqb, ltb, leb, List, [], ◌∷◌, ◌++◌, length, get_or, Some, None, Ok, Err, Option, Result, refl, ◌∙◌, arith}
 use Rattle.std.proofs.lemmas.List.{length_push}
 use Rattle.std.proofs.lemmas.Bool.{and_parts, and_from, leb-true, lt-ltb}
 use Rattle.rules.specs.declared.refusal.Refusal.{Refusal}
@@ -9,25 +9,24 @@ use Rattle.rules.specs.Plans.{Plan, Table, sound, sound_table, sound_tables}
 use Rattle.rules.specs.Lots.{width}
 use Rattle.rules.specs.Scripts as rules
 use Rattle.rules.specs.Scripts.{Expr, Code}
-use Rattle.rules.specs.Scoping.{index_scoped, expr_scoped, exprs_scoped}
-use Rattle.rules.specs.Inside.{index_inside}
+use Rattle.rules.specs.Scoping.{expr_scoped, exprs_scoped}
 use Rattle.rules.specs.Keeping.{expr_fits, exprs_fit}
 use Rattle.grammar.specs.declared.keywords.Keyword.TheVariants.{At, Else, In, Where}
 use Rattle.grammar.specs.declared.marks.Mark.TheVariants.{OpenBrace, CloseBrace, OpenParen, Semicolon, Dot, Equals}
 use Rattle.grammar.specs.declared.openings.Opening.{Opening}
 use Rattle.grammar.specs.declared.openings.Opening.TheVariants as opens
-use Rattle.grammar.specs.Tokens.{Token, Found, token_at, is_mark, is_keyword, next_is}
+use Rattle.grammar.specs.Tokens.{Token, Found, is_mark, is_keyword, next_is}
 use Rattle.grammar.specs.TokenList.{is_end}
-use Rattle.grammar.specs.Scopes.{Scope, use_name, is_variable}
-use Rattle.grammar.specs.Steps.{Seen, Part, expect, opening}
-use Rattle.grammar.specs.Clauses.{Lot, walked}
-use Rattle.grammar.specs.Expressions.{Term, most_parens, read_expr}
-use Rattle.grammar.specs.Statements.{Env, Counts, Block, Statement, Blocks, Over, Values, Behind, with_atoms, naming, deeper, read_block, else_if, read_else, new_name, read_value, ending, read_var, read_set, two_blocks, read_if, read_when, turning, read_vendors, visiting, read_over, read_each, last_value, more_values, read_values, read_add, visited, read_where, read_drop, Target, read_target, Change, read_change, read_alter, read_statement, behind}
+use Rattle.grammar.specs.Scopes.{Scope, is_variable}
+use Rattle.grammar.specs.Steps.{Seen, opening}
+use Rattle.grammar.specs.Clauses.{walked}
+use Rattle.grammar.specs.Expressions.{Term, most_parens}
+use Rattle.grammar.specs.Statements.{Env, Counts, Block, Statement, Blocks, Over, Values, Behind, with_atoms, read_block, else_if, read_else, new_name, ending, read_var, read_set, two_blocks, read_if, read_when, turning, read_vendors, visiting, read_over, read_each, last_value, more_values, read_values, read_add, visited, read_where, read_drop, Target, read_target, Change, read_change, read_alter, read_statement, behind}
 use Rattle.grammar.specs.Statements.Behind.{comma, close, other}
-use Rattle.grammar.specs.Reading.{Going, at_token, rest_with, in_front, read_rest, outside, read_script, reading}
+use Rattle.grammar.specs.Reading.{Going, at_token, rest_with, in_front, read_rest, reading}
 use Rattle.grammar.specs.ReadScripts.{WellMade, ReadScriptsAreWellMade}
 use Rattle.grammar.proofs.Gives.{Gives, done, sent, chain, past}
-use Rattle.grammar.proofs.ReadParts.{Moves, moved, Got, token_gives, expect_gives, name_gives, use_gives, make_gives, IndexRead, index_gives, LotRead, lot_gives, label_gives, column_gives, TermRead, expr_gives}
+use Rattle.grammar.proofs.ReadParts.{Moves, moved, Got, token_gives, expect_gives, name_gives, use_gives, make_gives, index_gives, lot_gives, label_gives, column_gives, TermRead, expr_gives}
 use Rattle.grammar.proofs.GoodCode.{Good, LotGood, widen, good_stop, good_var, good_set, good_add, good_drop, good_alter, good_if, good_when, good_vendors, good_each}
 
 -- In a sound plan every table has a column.

@@ -2,7 +2,7 @@
 use Rattle.std.proofs.Common.{◌≡◌, ℕ, zero, suc, ◌+◌, ◌≤◌, Bool, true, false, List, length, Ok, Err, Result, refl, ap, ◌∙◌, arith}
 use Rattle.std.proofs.lemmas.Bool.{both_ways}
 use Rattle.grammar.specs.Tokens.{Refusal, Token, end, Found, token_at}
-use Rattle.grammar.specs.TokenList.{is_end, list_on, tokens_from, tokens, Rising, behind_all, over, TokensAreInOrder}
+use Rattle.grammar.specs.TokenList.{is_end, list_on, tokens_from, Rising, behind_all, over, TokensAreInOrder}
 use Rattle.grammar.proofs.TokenLaws.{tokens_lie_within}
 
 -- the facts of a list of tokens that is read from a place on, with bytes enough to read them all

@@ -1,10 +1,9 @@
 -- The parts of a statement that have no parts of their own kind: an index, a lot, a variable's label.
-use Rattle.std.specs.Prelude.{ℕ, Bool, true, false, not, ◌&&◌, ◌||◌, List, [], ◌∷◌, length, Ok, Err, Result, ◌==◌, nat_le, nat_lt}
+use Rattle.std.specs.Prelude.{ℕ, Bool, false, not, ◌&&◌, ◌||◌, List, [], ◌∷◌, length, Result, ◌==◌, nat_le, nat_lt}
 use Rattle.rules.specs.declared.refusal.Refusal.TheVariants.{Unexpected, OutsidePlan, WrittenInEach}
 use Rattle.rules.specs.Guards.{guard, and_then}
 use Rattle.rules.specs.Plans.{Plan}
 use Rattle.rules.specs.Scripts as rules
-use Rattle.grammar.specs.declared.keywords.Keyword.{Keyword}
 use Rattle.grammar.specs.declared.keywords.Keyword.TheVariants.{Open, Me}
 use Rattle.grammar.specs.declared.marks.Mark.TheVariants.{OpenBracket, CloseBracket, AtSign}
 use Rattle.grammar.specs.declared.scopes.NameKind.{NameKind}

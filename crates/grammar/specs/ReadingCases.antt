@@ -1,7 +1,7 @@
 -- What some texts are read to, over the small plan of three vendors and two tables.
-use Rattle.std.specs.Prelude.{◌≡◌, ℕ, zero, suc, Bool, true, List, [], ◌∷◌, ◌++◌, replicate, is_ok, Ok, Err, codes, Result}
+use Rattle.std.specs.Prelude.{◌≡◌, ℕ, zero, suc, Bool, true, List, [], ◌∷◌, ◌++◌, replicate, is_ok, Ok, Err, codes}
 use Rattle.rules.specs.declared.refusal.Refusal.TheVariants.{TextTooLong, NoToken, Unexpected, WrongName, NameTaken, OutsidePlan, ExpressionCount, WrittenInEach, LimitPassed}
-use Rattle.rules.specs.Scripts.Index.{number, me}
+use Rattle.rules.specs.Scripts.Index.{number}
 use Rattle.rules.specs.Scripts.Op.{largest}
 use Rattle.rules.specs.Scripts.Expr.{literal, mine, cell, apply}
 use Rattle.rules.specs.Scripts.Code.{stop, alter}

@@ -1,6 +1,6 @@
 -- The nine statements, each read but for its blocks, whose reader is handed to it.
-use Rattle.std.specs.Prelude.{ℕ, zero, suc, ◌+◌, ◌-◌, Bool, true, false, not, List, [], ◌∷◌, ◌++◌, Ok, Err, Result, ◌==◌}
-use Rattle.rules.specs.declared.refusal.Refusal.TheVariants.{Unexpected, ExpressionCount, LimitPassed}
+use Rattle.std.specs.Prelude.{ℕ, zero, suc, ◌-◌, Bool, true, false, List, [], ◌∷◌, ◌++◌, Ok, Err, Result, ◌==◌}
+use Rattle.rules.specs.declared.refusal.Refusal.TheVariants.{ExpressionCount, LimitPassed}
 use Rattle.rules.specs.Guards.{guard, and_then}
 use Rattle.rules.specs.Plans.{Plan}
 use Rattle.rules.specs.Lots.{width}
@@ -8,7 +8,6 @@ use Rattle.rules.specs.Scripts as rules
 use Rattle.rules.specs.Scripts.{Expr, Code}
 use Rattle.grammar.specs.declared.keywords.Keyword.TheVariants.{At, Else, In, Where}
 use Rattle.grammar.specs.declared.marks.Mark.TheVariants.{OpenBrace, OpenParen, CloseParen, Semicolon, Comma, Dot, Equals}
-use Rattle.grammar.specs.declared.scopes.NameKind.{NameKind}
 use Rattle.grammar.specs.declared.scopes.NameKind.TheVariants.{Variable, Index, Cursor}
 use Rattle.grammar.specs.declared.openings.Opening.{Opening}
 use Rattle.grammar.specs.declared.openings.Opening.TheVariants as opens
@@ -16,7 +15,7 @@ pub use Rattle.grammar.specs.declared.counts.Counts.{Counts}
 use Rattle.grammar.specs.Tokens.{Refusal, Token, Found, token_at, is_mark, is_keyword, next_is}
 use Rattle.grammar.specs.Scopes as scopes
 use Rattle.grammar.specs.Scopes.{Scope, may_make, use_name, is_variable}
-use Rattle.grammar.specs.Steps.{Seen, unexpected, expect, a_name, a_number}
+use Rattle.grammar.specs.Steps.{Seen, unexpected, expect, a_name}
 use Rattle.grammar.specs.Clauses.{read_index, Lot, read_lot, read_label}
 use Rattle.grammar.specs.Expressions.{Term, most_parens, read_column, read_expr}
 

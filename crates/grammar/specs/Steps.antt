@@ -1,5 +1,5 @@
 -- The small steps of reading: the next token has to be a certain one, a name or a number.
-use Rattle.std.specs.Prelude.{ℕ, Bool, true, false, not, List, Some, None, Ok, Err, Option, Result}
+use Rattle.std.specs.Prelude.{ℕ, Bool, not, List, Some, None, Ok, Err, Option, Result}
 use Rattle.rules.specs.declared.refusal.Refusal.TheVariants.{Unexpected}
 use Rattle.rules.specs.Guards.{guard, and_then}
 use Rattle.grammar.specs.declared.keywords.Keyword.{Keyword}

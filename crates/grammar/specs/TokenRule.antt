@@ -1,5 +1,5 @@
 -- What the next token of a text is, in the grammar's own words, without saying how it is read.
-use Rattle.std.specs.Prelude.{◌≡◌, ℕ, ◌+◌, ◌-◌, ◌^◌, ◌<◌, ◌≤◌, Bool, true, false, List, length, take, Ok, Err, Result, ◌≢◌, slice_index, slice_index_or, slice_range}
+use Rattle.std.specs.Prelude.{◌≡◌, ℕ, ◌+◌, ◌^◌, ◌<◌, ◌≤◌, Bool, true, false, List, length, take, Ok, Err, Result, ◌≢◌, slice_index, slice_index_or, slice_range}
 use Rattle.std.specs.Str.Parse.{digits_value}
 use Rattle.rules.specs.declared.refusal.Refusal.TheVariants.{NoToken}
 use Rattle.grammar.specs.declared.keywords.Keyword.{Keyword}

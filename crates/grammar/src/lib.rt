@@ -1,5 +1,6 @@
 // How a script's text is read, as definitions, and what is proved of them. No other crate says it again.
 #![tactic(auto)]
+
 pub mod counts;
 pub mod keywords;
 pub mod marks;

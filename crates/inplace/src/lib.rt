@@ -1,5 +1,6 @@
 // A list of at most N items, held in place: it needs no memory but its own.
 #![tactic(auto)]
+
 ghost use Rattle.std.specs.Prelude.{◌≡◌, ◌+◌, ◌<◌, ◌≤◌, [], ◌∷◌, ◌++◌, length, take, if◌then◌else◌, MatchOption, nat_lt, slice_index_or, slice_set};
 ghost use Rattle.inplace.specs.Held.{held};
 

@@ -1,5 +1,6 @@
 // The program: it plays call files on a bench and prints the answers.
 #![tactic(auto)]
+
 mod batch;
 mod help;
 mod map;

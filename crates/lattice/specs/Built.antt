@@ -1,6 +1,5 @@
 -- The three lattices that are built. In each the tag is 0 for family 0, a family above 3 or a vendor above 31.
-use Rattle.std.specs.Prelude.{ℕ, ◌+◌, ◌*◌, ◌/◌, ◌%◌, ◌^◌, max, Bool, true, false, cond, ◌&&◌, ◌||◌, ◌==◌, bit_or, nat_le, nat_lt}
-use Rattle.std.specs.Int.Bits.{bit_and}
+use Rattle.std.specs.Prelude.{ℕ, ◌+◌, ◌*◌, ◌%◌, ◌^◌, max, Bool, cond, ◌&&◌, ◌||◌, ◌==◌, bit_or, nat_le, nat_lt}
 use Rattle.lattice.specs.Order.{Order}
 
 -- The families and vendors that have a tag of their own.

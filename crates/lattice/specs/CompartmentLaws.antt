@@ -1,9 +1,9 @@
 -- The laws of the compartments.
 use Rattle.std.specs.Prelude.{◌≡◌, ℕ, ◌+◌, ◌*◌, ◌%◌, ◌<◌, ◌≤◌, Bool, true, false, cond, ◌&&◌, ◌||◌, ◌==◌, refl}
-use Rattle.std.proofs.Common.{sym, ap, ◌∙◌, arith}
+use Rattle.std.proofs.Common.{arith}
 use Rattle.std.proofs.lemmas.Bool.Decides.{nat_tests}
-use Rattle.lattice.specs.Order.{Order, Laws}
-use Rattle.lattice.specs.Built.{compartments, compartment_label, compartment, tagged}
+use Rattle.lattice.specs.Order.{Laws}
+use Rattle.lattice.specs.Built.{compartments, compartment_label, tagged}
 
 tag_labels : (f v : ℕ) → compartments.label (compartments.tag f v) ≡ true
 tag_labels f v = go (tagged f v) refl

@@ -1,11 +1,11 @@
 -- The laws of the contributors: inclusion and union of sets of 32 bits.
-use Rattle.std.specs.Prelude.{◌≡◌, ℕ, ◌-◌, ◌^◌, ◌<◌, Bool, true, false, cond, ◌&&◌, bit_or, refl}
+use Rattle.std.specs.Prelude.{◌≡◌, ℕ, ◌^◌, ◌<◌, Bool, true, false, cond, bit_or, refl}
 use Rattle.std.proofs.Common.{sym, ap, ◌∙◌, arith}
 use Rattle.std.specs.Int.Bits.{or_self, or_zero_l}
 use Rattle.std.proofs.lemmas.Bool.Decides.{nat_tests}
 use Rattle.std.proofs.lemmas.Nat.{pow_below, or_lt, or_comm}
-use Rattle.lattice.specs.Order.{Order, Laws}
-use Rattle.lattice.specs.Built.{contributors, contributor_label, tagged}
+use Rattle.lattice.specs.Order.{Laws}
+use Rattle.lattice.specs.Built.{contributors, tagged}
 use Rattle.lattice.specs.Unions.{or_assoc, or_absorbs, or_absorbs_right, or_all}
 
 -- a set lies in another

@@ -1,8 +1,8 @@
 -- Union of sets of bits: what the library's laws of `bit_or` leave out.
-use Rattle.std.specs.Prelude.{◌≡◌, ℕ, ◌+◌, ◌-◌, ◌*◌, ◌/◌, ◌%◌, ◌^◌, ◌<◌, max, bit_or, refl}
+use Rattle.std.specs.Prelude.{◌≡◌, ℕ, ◌-◌, ◌/◌, ◌%◌, ◌^◌, ◌<◌, max, bit_or}
 use Rattle.std.proofs.Common.{sym, ap, ◌∙◌, mod-eq_of_lt, arith}
 use Rattle.std.proofs.Math.Arith.{bin_ind}
-use Rattle.std.specs.Int.Bits.{bit_and, or_step, or_self, or_zero_l, or_add_and}
+use Rattle.std.specs.Int.Bits.{or_step, or_self, or_zero_l, or_add_and}
 use Rattle.std.proofs.lemmas.Nat.{or_comm, and_mask}
 
 or_half : (a b : ℕ) → bit_or a b / 2 ≡ bit_or (a / 2) (b / 2)

@@ -1,12 +1,11 @@
 -- What the checks of a declaration come to: each refusal on its condition, and what an accepted one leaves.
-use Rattle.std.proofs.Common.{◌≡◌, ℕ, ◌+◌, ◌<◌, ◌≤◌, Bool, true, false, not, ◌&&◌, ◌||◌, eqb, ltb, leb, ◌⊎◌, List, [], ◌∷◌, ◌++◌, length, Ok, Err, Result, sym, refl, ap, ◌∙◌, inl, inr, arith, length-append}
-use Rattle.std.proofs.lemmas.Bool.{and_from, and_parts, lt-leb, le-leb, le-ltb, lt-ltb, or_from, or_left, or_right, eq-eqb, ne_eqb}
+use Rattle.std.proofs.Common.{◌≡◌, ℕ, ◌+◌, ◌<◌, ◌≤◌, Bool, true, false, not, ◌&&◌, leb, List, [], ◌∷◌, ◌++◌, length, Ok, Err, Result, refl, arith, length-append}
+use Rattle.std.proofs.lemmas.Bool.{and_from, and_parts, lt-ltb}
 use Rattle.std.proofs.lemmas.Bool.Decides.{nat_tests}
 use Rattle.rules.specs.declared.refusal.Refusal.{Refusal}
-use Rattle.rules.specs.declared.refusal.Refusal.TheVariants.{VendorCountFixed, TooManyTables, ColumnCount, FamilyTooHigh, PairCount, PairRule}
+use Rattle.rules.specs.declared.refusal.Refusal.TheVariants.{VendorCountFixed}
 use Rattle.rules.specs.Guards.{guard, answer, after}
-use Rattle.rules.specs.Pairs.{laid}
-use Rattle.rules.specs.Plans.{Plan, Table, set_vendors, declare, families_above, no_room, wrong_columns, wrong_families, wrong_count, wrong_pairs, with_table, sound, sound_table, sound_tables}
+use Rattle.rules.specs.Plans.{Plan, Table, set_vendors, declare, no_room, wrong_columns, wrong_families, wrong_count, wrong_pairs, with_table, sound, sound_table, sound_tables}
 
 -- What is left of a declaration whose checks all pass.
 accepted : (p : Plan) (t : Table) → no_room p ≡ false → wrong_columns t.columns ≡ false → wrong_families t.row t.columns ≡ false

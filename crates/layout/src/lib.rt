@@ -1,5 +1,6 @@
 // The plan of a bench: the vendor count, the tables, and which slots of each table are whose.
 #![tactic(auto)]
+
 pub mod declare;
 pub mod pair;
 pub mod plan;

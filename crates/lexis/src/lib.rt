@@ -1,5 +1,6 @@
 // Reads a text's tokens where they stand. The text is never copied: a token holds its part of it.
 #![tactic(auto)]
+
 mod classes;
 mod keywords;
 mod marks;

@@ -2,8 +2,8 @@
 use Rattle.std.proofs.Common.{◌≡◌, ℕ, ◌+◌, ◌<◌, ◌≤◌, true, leb, List, [], ◌∷◌, ◌++◌, map, length, get_or, take, set, sym, refl, ap, ◌∙◌, arith}
 use Rattle.std.proofs.lemmas.Bool.{and_from, le-leb}
 use Rattle.std.proofs.lemmas.List.{take_all, take_more_set, map_more}
-use Rattle.rules.specs.Pairs.{Pair, laid}
-use Rattle.rules.specs.Lots.{Lot, no_rows}
+use Rattle.rules.specs.Pairs.{laid}
+use Rattle.rules.specs.Lots.{no_rows}
 use Rattle.layout.specs.declared.pair.Pair as pair
 use Rattle.layout.specs.Pairs.{pair_of}
 use Rattle.lots.specs.declared.row.Row.{Row}

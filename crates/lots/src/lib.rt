@@ -3,6 +3,7 @@
 // A `Row` lies in a slot. A lot's part of the slots is lent to the functions of `part`, which write there; a `Table` has
 // the slots and the lots of one table, and a `Store` has the tables of a bench.
 #![tactic(auto)]
+
 pub mod cells;
 pub mod looking;
 pub mod lot;

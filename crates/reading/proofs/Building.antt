@@ -1,5 +1,5 @@
 -- What reading leaves of the script's nodes, and what a statement's node means once the rest of its block stands.
-use Rattle.std.proofs.Common.{◌≡◌, ℕ, ◌+◌, ◌*◌, ◌<◌, ◌≤◌, Bool, true, ◌&&◌, ltb, List, [], ◌∷◌, ◌++◌, map, length, get_or, Ok, Err, Result, sym, refl, ap, ◌∙◌, subst, ap₂, arith}
+use Rattle.std.proofs.Common.{◌≡◌, ℕ, ◌+◌, ◌*◌, ◌<◌, ◌≤◌, true, ltb, List, [], ◌∷◌, length, Ok, Err, Result, sym, refl, ap, ◌∙◌, subst, ap₂, arith}
 use Rattle.std.proofs.lemmas.Bool.{and_parts, and_from, ltb-true, lt-ltb}
 use Rattle.inplace.specs.Held.{held}
 use Rattle.rules.specs.Scripts as rules
@@ -8,14 +8,13 @@ use Rattle.grammar.specs.declared.counts.Counts.{Counts}
 use Rattle.grammar.specs.Reading.{begin}
 use Rattle.script.specs.declared.node.Stmt.{Stmt}
 use Rattle.script.specs.declared.node.Stmt.TheVariants.{Var, Set, If, When, Vendors, Each, Add, Drop, Alter}
-use Rattle.script.specs.Nodes.{code_of, index_of, mark_of, expr_at, block_at}
+use Rattle.script.specs.Nodes.{code_of, index_of, expr_at, block_at}
 use Rattle.script.specs.Ordered.{all_below, exprs_in, blocks_in, stmt_ordered}
-use Rattle.script.specs.Pushing.{stmt_room}
 use Rattle.script.proofs.Order.{below_more}
 use Rattle.reading.specs.declared.statements.Stated.{Stated}
-use Rattle.reading.specs.Terms.{Stay, Kept}
-use Rattle.reading.specs.Stated.{before_of, FlatTo, Flat}
-use Rattle.reading.specs.Blocks.{resting, KeptBlocks, Ready, Larger, ToldTo, Told}
+use Rattle.reading.specs.Terms.{Kept}
+use Rattle.reading.specs.Stated.{before_of, Flat}
+use Rattle.reading.specs.Blocks.{resting, KeptBlocks, Ready, Larger, Told}
 use Rattle.reading.proofs.Grows.{stay_self, stay_twice}
 use Rattle.reading.proofs.ManyValues.{kept_values}
 

@@ -1,5 +1,5 @@
 -- An expression by its first token, at any depth.
-use Rattle.std.proofs.Common.{◌≡◌, ℕ, zero, suc, ◌-◌, ◌<◌, List, Result, refl, sub-one, arith}
+use Rattle.std.proofs.Common.{◌≡◌, ℕ, zero, suc, ◌-◌, List, Result, refl, sub-one, arith}
 use Rattle.rules.specs.Plans.{Plan}
 use Rattle.grammar.specs.Tokens.{Refusal, Found}
 use Rattle.grammar.specs.Scopes.{Scope}

@@ -1,12 +1,12 @@
 -- What is left of a block, by its next token.
-use Rattle.std.proofs.Common.{◌≡◌, ℕ, zero, suc, ◌-◌, ◌<◌, ◌≤◌, Bool, true, false, List, Some, None, Ok, Err, Option, Result, refl, ap, ◌∙◌, ap₂, sub-one, arith}
+use Rattle.std.proofs.Common.{◌≡◌, ℕ, zero, suc, ◌-◌, ◌<◌, ◌≤◌, Bool, true, false, List, Some, None, Ok, Err, Option, refl, ap, ◌∙◌, ap₂, sub-one, arith}
 use Rattle.rules.specs.declared.refusal.Refusal.TheVariants.{Unexpected, LimitPassed}
 use Rattle.std.proofs.lemmas.Bool.{le-leb, lt-leb}
 use Rattle.rules.specs.Guards.{guard, and_then}
 use Rattle.rules.specs.Scripts as rules
 use Rattle.grammar.specs.declared.counts.Counts.{Counts}
 use Rattle.grammar.specs.declared.openings.Opening.{Opening}
-use Rattle.grammar.specs.Tokens.{Refusal, Token, Found, token_at}
+use Rattle.grammar.specs.Tokens.{Token, Found, token_at}
 use Rattle.grammar.specs.Steps.{opening}
 use Rattle.grammar.specs.Statements.{Env, Block, Statement, naming, read_statement}
 use Rattle.grammar.specs.Reading.{Going, begin, at_token, rest_with, in_front, read_rest}

@@ -1,5 +1,5 @@
 -- What a read expression of the code stands for, and what reading it leaves of the script's nodes.
-use Rattle.std.specs.Prelude.{◌≡◌, ℕ, ◌+◌, ◌*◌, ◌<◌, ◌≤◌, List, length, Ok, Err, Option, Result, slice_index_or}
+use Rattle.std.specs.Prelude.{◌≡◌, ℕ, ◌+◌, ◌*◌, ◌<◌, ◌≤◌, List, length, Ok, Err, Result, slice_index_or}
 use Rattle.rules.specs.Scripts as rules
 use Rattle.grammar.specs.Tokens.{Refusal}
 use Rattle.grammar.specs.Expressions as grammar

@@ -1,5 +1,6 @@
 // Reads a script's text over a plan.
 #![tactic(auto)]
+
 mod blocks;
 mod env;
 mod expressions;

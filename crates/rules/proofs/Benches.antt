@@ -1,22 +1,18 @@
 -- A call over plain values: its checks and what it does, what an admission gives, and what every bench keeps.
-use Rattle.std.proofs.Common.{◌≡◌, ℕ, ◌≤◌, Bool, true, false, cond, not, eqb, ltb, leb, List, [], ◌∷◌, ◌++◌, length, get_or, is_some, Some, None, Ok, Err, Option, Result, sym, refl, ap, ◌∙◌, arith}
+use Rattle.std.proofs.Common.{◌≡◌, ℕ, ◌≤◌, Bool, true, false, cond, eqb, List, [], ◌∷◌, length, is_some, Some, None, Ok, Err, Option, Result, refl, arith}
 use Rattle.std.specs.List.{AllByRecursion as All}
 use Rattle.std.proofs.lemmas.Bool.{both_ways, ltb-false, leb-false}
-use Rattle.std.proofs.lemmas.Bool.Decides.{nat_tests}
 use Rattle.rules.specs.declared.refusal.Refusal.{Refusal}
-use Rattle.rules.specs.declared.refusal.Refusal.TheVariants.{ClearanceNoLabel, NoSuchTable, NoSuchVendor, NoSuchColumn, ValueCount, NotCleared, NoSuchRow, LotFull, NoSuchSlot, SlotEmpty}
-use Rattle.rules.specs.declared.answer.Answer.TheVariants.{Done, Figure, Cell, Rows, Steps, Refused}
 use Rattle.lattice.specs.Order.{Order}
 use Rattle.rules.specs.Guards.{Check, guard, sift, and_then}
 use Rattle.rules.specs.Plans.{Plan}
 use Rattle.rules.specs.Scripts.{Code}
-use Rattle.rules.specs.Lots.{Lot, Lots, InRoom, room, width, upd, put_lot}
-use Rattle.rules.specs.Evaluation.{State, ran, run_for}
-use Rattle.rules.specs.Labels.{row_label, cell_label}
+use Rattle.rules.specs.Lots.{Lots, InRoom, room, upd}
+use Rattle.rules.specs.Evaluation.{ran, run_for}
 use Rattle.rules.specs.Figures.{figure}
 use Rattle.rules.specs.Judging.{judge, Admissible}
-use Rattle.rules.specs.Admission.{Script, Reading, Admission, script_checks, admit_code, admission}
-use Rattle.rules.specs.Calls.{Bench, new_bench, Call, Move, checks, effect, outcome, reply, step, bench_of, after_calls, with_row, with_script, hold, after_run, script_in, script_of}
+use Rattle.rules.specs.Admission.{Script, Reading, script_checks, admit_code, admission}
+use Rattle.rules.specs.Calls.{Bench, new_bench, Call, checks, effect, outcome, step, bench_of, after_calls, hold, script_in, script_of}
 use Rattle.rules.specs.Calls.Call.{post, admit, run, look, count, meter}
 use Rattle.rules.proofs.Judged.{judge_is_exact}
 use Rattle.rules.proofs.StepBound.{Within, within_figure, put_in_room}

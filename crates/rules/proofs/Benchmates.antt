@@ -1,33 +1,28 @@
 -- Two benches: lists of calls that agree at a label are answered alike to those who hear there.
-use Rattle.std.proofs.Common.{◌≡◌, ℕ, zero, suc, ◌<◌, ◌≤◌, Bool, true, false, cond, not, ◌&&◌, eqb, ltb, leb, ◌⊎◌, List, [], ◌∷◌, length, get_or, is_some, Some, None, Ok, Err, filter, Option, Result, sym, refl, ap, ◌∙◌, subst, inl, inr, arith}
-use Rattle.std.specs.List.{AllZip, AllByRecursion as All}
-use Rattle.std.proofs.ByRecursion.{kept_by_passes}
+use Rattle.std.proofs.Common.{◌≡◌, ℕ, zero, suc, ◌<◌, ◌≤◌, Bool, true, false, cond, not, eqb, leb, ◌⊎◌, List, [], ◌∷◌, length, get_or, is_some, Some, None, Ok, Err, Option, Result, sym, refl, ap, ◌∙◌, subst, inl, inr, arith}
+use Rattle.std.specs.List.{AllByRecursion as All}
 use Rattle.std.proofs.lemmas.List.{get_or_past}
-use Rattle.std.proofs.lemmas.Bool.{both_ways, cases_lt, and_from, and_parts, lt-ltb, leb-false, eqb-true, not-true, not-false, not_from_true, not_from_false}
-use Rattle.std.proofs.lemmas.Bool.Decides.{nat_tests}
+use Rattle.std.proofs.lemmas.Bool.{both_ways, cases_lt, and_from, lt-ltb, leb-false, eqb-true, not-false}
 use Rattle.rules.specs.declared.refusal.Refusal.{Refusal}
-use Rattle.rules.specs.declared.answer.Answer.{Answer}
-use Rattle.rules.specs.declared.answer.Answer.TheVariants.{Done, Figure, Cell, Rows, Steps, Refused}
+use Rattle.rules.specs.declared.answer.Answer.TheVariants.{Figure, Cell, Rows, Steps}
 use Rattle.lattice.specs.Order.{Order, Laws}
 use Rattle.rules.specs.Guards.{Check, guard, sift, and_then}
 use Rattle.rules.specs.Plans.{Plan}
 use Rattle.rules.specs.Scripts.{Code}
-use Rattle.rules.specs.Lots.{Lot, Lots, width, room, upd, put_lot}
-use Rattle.rules.specs.Evaluation.{State, ran, run_for}
+use Rattle.rules.specs.Lots.{Lots, width, room}
+use Rattle.rules.specs.Evaluation.{ran, run_for}
 use Rattle.rules.specs.Labels.{no_names, row_label, cell_label}
 use Rattle.rules.specs.Flows.{Allowed}
 use Rattle.rules.specs.Admission.{Script, Reading, Admission, admission}
-use Rattle.rules.specs.Calls.{Bench, new_bench, Call, Move, checks, effect, outcome, reply, step, reply_of, bench_of, with_row, with_script, hold, after_run, script_in, script_of}
+use Rattle.rules.specs.Calls.{Bench, Call, Move, checks, outcome, reply, step, reply_of, bench_of, hold, script_in, script_of}
 use Rattle.rules.specs.Calls.Call.{post, admit, run, look, count, meter}
-use Rattle.rules.specs.Sight.{SameRow, SameRows, SameLot, SameLots, Same}
+use Rattle.rules.specs.Sight.{SameRow, SameRows, SameLots, Same}
 use Rattle.rules.specs.Sight.SameRows.{none, more}
-use Rattle.rules.specs.Agreement.{lot_exists, unseen, strike, Alike, Agree, hears, heard}
+use Rattle.rules.specs.Agreement.{lot_exists, unseen, Alike, hears}
 use Rattle.rules.specs.Agreement.Alike.{equal, posts}
-use Rattle.rules.specs.Promises.{TwoBenches}
-use Rattle.rules.proofs.Seen.{row_refl, rows_length, lots_refl, cell_seen_row}
-use Rattle.rules.proofs.Confined.{put_unseen}
+use Rattle.rules.proofs.Seen.{row_refl, rows_length, cell_seen_row}
 use Rattle.rules.proofs.InStep.{in_step, put_both}
-use Rattle.rules.proofs.Benches.{sifted, Held, JudgedScript, Orderly, new_orderly, orderly_step}
+use Rattle.rules.proofs.Benches.{Held, JudgedScript, Orderly}
 use Rattle.rules.proofs.Framed.{frames}
 
 -- checks of two benches that ask the same, as far as they get

@@ -1,7 +1,7 @@
 -- Each call over plain values, one equation a call: its checks in their order, then what it does.
-use Rattle.std.proofs.Common.{◌≡◌, ℕ, Bool, not, eqb, ltb, leb, List, [], length, get_or, is_some, Ok, Err, refl}
+use Rattle.std.proofs.Common.{◌≡◌, ℕ, not, eqb, ltb, leb, List, [], length, get_or, is_some, Ok, refl}
 use Rattle.rules.specs.declared.refusal.Refusal.TheVariants.{ClearanceNoLabel, NoSuchTable, NoSuchVendor, NoSuchColumn, ValueCount, NotCleared, NoSuchRow, LotFull, NoSuchSlot, SlotEmpty, FlowNotAllowed, FigureTooHigh}
-use Rattle.rules.specs.declared.answer.Answer.TheVariants.{Done, Figure, Cell, Rows, Steps, Refused}
+use Rattle.rules.specs.declared.answer.Answer.TheVariants.{Done, Figure, Cell, Rows, Steps}
 use Rattle.lattice.specs.Order.{Order}
 use Rattle.rules.specs.Guards.{guard, and_then}
 use Rattle.rules.specs.Plans.{Plan}

@@ -1,5 +1,5 @@
 -- Confinement: an allowed block in a context that is not seen changes nothing that is seen.
-use Rattle.std.proofs.Common.{◌≡◌, ℕ, zero, suc, ◌+◌, ◌<◌, Bool, true, false, cond, ◌&&◌, eqb, ltb, List, [], ◌∷◌, map, length, get_or, set as set_at, sym, refl, ap, ◌∙◌, arith}
+use Rattle.std.proofs.Common.{◌≡◌, ℕ, zero, suc, ◌<◌, Bool, true, false, cond, ◌&&◌, eqb, List, [], ◌∷◌, map, get_or, set as set_at, sym, refl, ap, arith}
 use Rattle.std.proofs.lemmas.List.{length-set, get_or-set_other}
 use Rattle.std.proofs.lemmas.Bool.{both_ways, and_parts, cond_both}
 use Rattle.std.proofs.lemmas.Bool.Decides.{nat_tests}
@@ -9,12 +9,12 @@ use Rattle.rules.specs.Scripts.{Code, Expr}
 use Rattle.rules.specs.Scripts.Code.{stop, var, set, if, when, vendors, each, add, drop, alter}
 use Rattle.rules.specs.Lots.{Lot, Lots, upd, put_lot}
 use Rattle.rules.specs.Evaluation.{Valuation, Cursors, State, eval, exec, whom, put_index, count_steps, set_var, set_lot, walk, rounds, alter_rows}
-use Rattle.rules.specs.Labels.{Scope, enter, held, turn, cursor, mark_at, row_label, cell_label, var_label, expr_label}
-use Rattle.rules.specs.Flows.{Allowed, cells_flow, if_context, each_context}
+use Rattle.rules.specs.Labels.{Scope, enter, held, turn, cursor, mark_at, row_label, cell_label, var_label}
+use Rattle.rules.specs.Flows.{Allowed, if_context, each_context}
 use Rattle.rules.specs.Sight.{SameRow, SameRows, SameLot, SameLots, Same}
 use Rattle.rules.specs.Sight.SameRows.{none, more}
 use Rattle.rules.specs.Promises.{Confinement}
-use Rattle.rules.proofs.Seen.{refuted, name_past, row_is_label, cell_is_label, expr_is_label, held_is_label, hidden_left, hidden_right, hidden_above, hidden_top, row_refl, lot_refl, lots_refl, same_refl, same_trans, leave}
+use Rattle.rules.proofs.Seen.{name_past, row_is_label, expr_is_label, hidden_left, hidden_above, hidden_top, row_refl, lot_refl, lots_refl, same_refl, same_trans, leave}
 
 module _ (o : Order) (laws : Laws o) (plan : Plan) (s : ℕ) where
   -- a lot that is not seen may change

@@ -8,7 +8,7 @@ use Rattle.rules.specs.Lots.{width}
 use Rattle.rules.specs.Labels.{cell_label}
 use Rattle.rules.specs.Calls.{Call}
 use Rattle.rules.specs.Calls.Call.{post, admit, run, look, count, meter}
-use Rattle.rules.specs.Agreement.{lot_exists, strike, Alike, Agree}
+use Rattle.rules.specs.Agreement.{lot_exists, strike, Alike}
 use Rattle.rules.specs.Agreement.Alike.{equal, posts}
 use Rattle.rules.specs.Deciding
 

@@ -1,17 +1,16 @@
 -- What each call leaves alone.
-use Rattle.std.proofs.Common.{◌≡◌, ℕ, Bool, true, false, cond, ◌&&◌, eqb, List, [], ◌∷◌, Some, None, Ok, Err, Option, Result, sym, refl, ap, ◌∙◌, arith}
+use Rattle.std.proofs.Common.{◌≡◌, ℕ, Bool, true, false, cond, ◌&&◌, eqb, Some, Ok, Err, Result, refl, arith}
 use Rattle.std.proofs.lemmas.Bool.Decides.{nat_tests}
 use Rattle.rules.specs.declared.refusal.Refusal.{Refusal}
-use Rattle.rules.specs.declared.answer.Answer.{Answer}
-use Rattle.rules.specs.declared.answer.Answer.TheVariants.{Done, Figure, Cell, Rows, Steps, Refused}
+use Rattle.rules.specs.declared.answer.Answer.TheVariants.{Refused}
 use Rattle.lattice.specs.Order.{Order}
 use Rattle.rules.specs.Guards.{and_then}
 use Rattle.rules.specs.Plans.{Plan}
 use Rattle.rules.specs.Lots.{Lot, Lots, upd, put_lot}
 use Rattle.rules.specs.Admission.{Script, Admission}
-use Rattle.rules.specs.Calls.{Bench, Call, Move, checks, effect, outcome, reply, step, reply_of, bench_of, with_row, with_script, hold}
+use Rattle.rules.specs.Calls.{Bench, Call, checks, effect, outcome, step, reply_of, bench_of, with_script, hold}
 use Rattle.rules.specs.Calls.Call.{post, admit, run, look, count, meter}
-use Rattle.rules.specs.Promises.{Frames, Frame}
+use Rattle.rules.specs.Promises.{Frames}
 use Rattle.rules.proofs.Benches.{sifted}
 
 put_apart : (lots : Lots) (t v : ℕ) (lot : Lot) (u w : ℕ) → (u ≡ t → w ≡ v → ⊥) → put_lot lots t v lot u w ≡ lots u w

@@ -1,21 +1,21 @@
 -- Lockstep: an allowed block from two states that look the same ends in two that do.
 use Rattle.std.proofs.Common.{◌≡◌, ℕ, zero, suc, ◌+◌, ◌<◌, min, Bool, true, false, cond, ◌&&◌, eqb, ltb, List, [], ◌∷◌, map, length, get_or, set as set_at, filter, sym, refl, ap, ◌∙◌, arith}
-use Rattle.std.proofs.lemmas.List.{length-map, length-set, get_or-set_other}
-use Rattle.std.proofs.lemmas.Bool.{both_ways, and_parts, cond_both, false≢true, true≢false}
+use Rattle.std.proofs.lemmas.List.{length-map, length-set}
+use Rattle.std.proofs.lemmas.Bool.{and_parts, cond_both, false≢true, true≢false}
 use Rattle.std.proofs.lemmas.Bool.Decides.{nat_tests}
 use Rattle.lattice.specs.Order.{Order, Laws}
 use Rattle.rules.specs.Plans.{Plan}
-use Rattle.rules.specs.Scripts.{Op, Expr, Code}
+use Rattle.rules.specs.Scripts.{Expr, Code}
 use Rattle.rules.specs.Scripts.Expr.{literal, mine, of_index, variable, cell, apply}
 use Rattle.rules.specs.Scripts.Code.{stop, var, set, if, when, vendors, each, add, drop, alter}
 use Rattle.rules.specs.Lots.{Lot, Lots, upd, put_lot, room, enter_row}
-use Rattle.rules.specs.Evaluation.{Valuation, Cursors, State, operate, eval, exec, whom, put_index, count_steps, set_var, set_lot, walk, rounds, drop_rows, alter_rows}
-use Rattle.rules.specs.Labels.{Name, Scope, enter, name_at, held, turn, cursor, mark_at, held_label, column_label, row_label, cell_label, var_label, cursor_label, expr_label}
-use Rattle.rules.specs.Flows.{Allowed, set_flows, cells_flow, drop_flows, alter_flows, if_context, each_context}
+use Rattle.rules.specs.Evaluation.{Valuation, Cursors, State, operate, eval, exec, whom, put_index, count_steps, set_var, set_lot, walk, rounds}
+use Rattle.rules.specs.Labels.{Name, Scope, enter, name_at, held, turn, cursor, mark_at, column_label, row_label, cell_label, var_label, expr_label}
+use Rattle.rules.specs.Flows.{Allowed, cells_flow, if_context, each_context}
 use Rattle.rules.specs.Sight.{SameRow, SameRows, SameLot, SameLots, Same, SameCursors}
 use Rattle.rules.specs.Sight.SameRows.{none, more}
 use Rattle.rules.specs.Promises.{Lockstep}
-use Rattle.rules.proofs.Seen.{name_made, name_before, name_past, row_is_label, cell_is_label, held_is_label, column_is_label, expr_is_label, seen_left, seen_right, seen_all, hidden_right, row_refl, row_sym, row_trans, rows_length, same_sym, same_trans, leave, enter_same}
+use Rattle.rules.proofs.Seen.{name_made, name_before, row_is_label, column_is_label, expr_is_label, seen_left, seen_right, seen_all, hidden_right, row_refl, row_sym, row_trans, rows_length, same_sym, same_trans, leave, enter_same}
 use Rattle.rules.proofs.Confined.{confined, walked, counted, set_unseen}
 
 -- two choices by equal tests

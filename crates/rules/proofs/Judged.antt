@@ -8,8 +8,8 @@ use Rattle.rules.specs.Scripts.{Code}
 use Rattle.rules.specs.Scripts.Code.{stop, var, set, if, when, vendors, each, add, drop, alter}
 use Rattle.rules.specs.Evaluation.{Valuation, whom, put_index, run_for}
 use Rattle.rules.specs.Labels.{Scope, no_names, enter, held, turn, cursor, mark_at}
-use Rattle.rules.specs.Flows.{Allowed, set_flows, add_flows, drop_flows, alter_flows, if_context, each_context}
-use Rattle.rules.specs.Judging.{flow, earlier, least_of, over, verdict, judge, Admissible, Fault, Faulty, places, Rising}
+use Rattle.rules.specs.Flows.{Allowed, if_context, each_context}
+use Rattle.rules.specs.Judging.{flow, earlier, least_of, over, verdict, judge, Fault, Faulty, places, Rising}
 use Rattle.rules.specs.Promises.{JudgeIsExact}
 
 either : {X Y Z : Type 0} → X ⊎ Y → (X → Z) → (Y → Z) → Z

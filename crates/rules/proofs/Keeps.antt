@@ -1,5 +1,5 @@
 -- Every lot is kept: by a block, by a call, after any list of calls.
-use Rattle.std.proofs.Common.{◌≡◌, ℕ, zero, suc, ◌+◌, ◌<◌, ◌≤◌, min, Bool, true, false, cond, not, ◌&&◌, eqb, ltb, leb, List, [], ◌∷◌, map, length, get_or, set as set_at, Some, None, Ok, Err, filter, Option, Result, sym, refl, ap, ◌∙◌, arith}
+use Rattle.std.proofs.Common.{◌≡◌, ℕ, zero, suc, ◌<◌, ◌≤◌, Bool, true, false, cond, ◌&&◌, eqb, ltb, leb, List, [], ◌∷◌, map, length, get_or, set as set_at, Some, None, Ok, Err, Option, Result, refl, ◌∙◌, arith}
 use Rattle.std.specs.List.{AllByRecursion as All}
 use Rattle.std.proofs.ByRecursion.{all_kept_by, All-map, All-weaker, All-set}
 use Rattle.std.proofs.lemmas.List.{length-map, length-set}
@@ -8,19 +8,19 @@ use Rattle.std.proofs.lemmas.Bool.Decides.{nat_tests}
 use Rattle.rules.specs.declared.refusal.Refusal.{Refusal}
 use Rattle.lattice.specs.Order.{Order}
 use Rattle.rules.specs.Guards.{and_then}
-use Rattle.rules.specs.Plans.{Plan, sound}
+use Rattle.rules.specs.Plans.{Plan}
 use Rattle.rules.specs.Scripts.{Op, Expr, Code}
 use Rattle.rules.specs.Scripts.Op.{plus, minus, least, largest, equal, less}
 use Rattle.rules.specs.Scripts.Expr.{literal, mine, of_index, variable, cell, apply}
 use Rattle.rules.specs.Scripts.Code.{stop, var, set, if, when, vendors, each, add, drop, alter}
 use Rattle.rules.specs.Lots.{Lot, Lots, last_word, width, room, upd, put_lot, enter_row}
 use Rattle.rules.specs.Evaluation.{Valuation, Cursors, State, bit, operate, eval, exec, ran, whom, put_index, run_for, count_steps, set_var, set_lot, walk, rounds, drop_rows, alter_rows}
-use Rattle.rules.specs.Admission.{Script, Reading, Admission, admission}
+use Rattle.rules.specs.Admission.{Script, Reading, admission}
 use Rattle.rules.specs.Calls.{Bench, new_bench, Call, checks, effect, outcome, step, bench_of, after_calls, hold, script_in, script_of}
 use Rattle.rules.specs.Calls.Call.{post, admit, run, look, count, meter}
 use Rattle.rules.specs.Keeping.{Words, KeptLot, expr_fits, exprs_fit, code_fits, Fitting, CallWords}
 use Rattle.rules.specs.Promises.{Kept}
-use Rattle.rules.proofs.StepBound.{entered_room, kept_length}
+use Rattle.rules.proofs.StepBound.{kept_length}
 use Rattle.rules.proofs.Benches.{sifted, admitted, Held, held_upd}
 
 word_at : (xs : List ℕ) (k : ℕ) → Words xs → get_or xs k 0 ≤ last_word

@@ -1,20 +1,17 @@
 -- The meter along any list of calls.
-use Rattle.std.proofs.Common.{◌≡◌, ℕ, ◌+◌, ◌≤◌, Bool, true, false, not, ◌&&◌, List, [], ◌∷◌, ◌++◌, is_ok, Ok, Err, Result, sym, refl, ap, ◌∙◌, arith}
-use Rattle.std.specs.List.{AllByRecursion as All}
+use Rattle.std.proofs.Common.{◌≡◌, ℕ, ◌≤◌, true, false, not, List, [], ◌∷◌, ◌++◌, is_ok, Ok, Err, Result, refl, ap, ◌∙◌, arith}
 use Rattle.std.proofs.lemmas.Bool.{both_ways, and_parts, not-true}
 use Rattle.rules.specs.declared.refusal.Refusal.{Refusal}
-use Rattle.rules.specs.declared.answer.Answer.TheVariants.{Done, Figure, Cell, Rows, Steps, Refused}
+use Rattle.rules.specs.declared.answer.Answer.TheVariants.{Figure}
 use Rattle.lattice.specs.Order.{Order}
-use Rattle.rules.specs.Guards.{Check, sift, and_then}
+use Rattle.rules.specs.Guards.{and_then}
 use Rattle.rules.specs.Plans.{Plan}
-use Rattle.rules.specs.Evaluation.{ran}
-use Rattle.rules.specs.Figures.{figure}
-use Rattle.rules.specs.Admission.{Script, Reading, Admission, admission}
-use Rattle.rules.specs.Calls.{Bench, new_bench, Call, Move, checks, effect, outcome, reply, step, reply_of, bench_of, after_calls, with_script, hold, after_run, script_in}
+use Rattle.rules.specs.Admission.{Script, Admission, admission}
+use Rattle.rules.specs.Calls.{Bench, new_bench, Call, Move, checks, effect, outcome, reply, step, reply_of, bench_of, after_calls, hold, after_run, script_in}
 use Rattle.rules.specs.Calls.Call.{post, admit, run, look, count, meter}
 use Rattle.rules.specs.Metering.{accepted_run, no_run, run_steps}
 use Rattle.rules.specs.Promises.{Metered}
-use Rattle.rules.proofs.Benches.{sifted, passed, Orderly, new_orderly, orderly_after, slot_figure, ran_within}
+use Rattle.rules.proofs.Benches.{sifted, new_orderly, orderly_after, slot_figure, ran_within}
 
 -- a refused call leaves the bench
 refused_step : (bench : Bench) (r : Result Move Refusal) → is_ok r ≡ false → bench_of bench r ≡ bench

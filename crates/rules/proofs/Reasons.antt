@@ -1,11 +1,11 @@
 -- Why a call is sent back: its checks decide its conditions, and the first that holds is its answer.
-use Rattle.std.proofs.Common.{◌≡◌, ℕ, ◌<◌, ◌≤◌, Bool, true, false, not, eqb, ltb, leb, ◌⊎◌, List, [], ◌∷◌, length, is_some, Some, None, Ok, Err, Decides, Option, Result, sym, refl, ap, ◌∙◌, inl, inr, arith}
+use Rattle.std.proofs.Common.{◌≡◌, ℕ, ◌<◌, ◌≤◌, Bool, true, false, not, ltb, leb, ◌⊎◌, List, [], ◌∷◌, length, is_some, Some, None, Ok, Err, Decides, Option, Result, sym, refl, ap, ◌∙◌, inl, inr, arith}
 use Rattle.std.specs.List.{AllByRecursion as All}
-use Rattle.std.proofs.lemmas.Bool.{both_ways, cases_Bool, leb-true, le-leb, not-true, not_from_false, false≢true, true≢false}
+use Rattle.std.proofs.lemmas.Bool.{leb-true, le-leb, not-true, not_from_false, false≢true, true≢false}
 use Rattle.std.proofs.lemmas.Bool.Decides.{Decides-eqb, Decides-not, Decides-ltb, not_from_Decides}
 use Rattle.rules.specs.declared.refusal.Refusal.{Refusal}
 use Rattle.rules.specs.declared.refusal.Refusal.TheVariants.{FlowNotAllowed, FigureTooHigh}
-use Rattle.rules.specs.declared.answer.Answer.TheVariants.{Done, Figure, Cell, Rows, Steps, Refused}
+use Rattle.rules.specs.declared.answer.Answer.TheVariants.{Refused}
 use Rattle.lattice.specs.Order.{Order}
 use Rattle.rules.specs.Guards.{Check, guard, sift, and_then}
 use Rattle.rules.specs.Plans.{Plan}
@@ -13,9 +13,9 @@ use Rattle.rules.specs.Scripts.{Code}
 use Rattle.rules.specs.Figures.{figure}
 use Rattle.rules.specs.Judging.{judge}
 use Rattle.rules.specs.Admission.{Script, Reading, Admission, admission, admit_code, script_checks, place_of}
-use Rattle.rules.specs.Calls.{Bench, Call, Move, checks, effect, outcome, reply, reply_of, hold}
+use Rattle.rules.specs.Calls.{Bench, Call, checks, effect, outcome, reply, reply_of, hold}
 use Rattle.rules.specs.Calls.Call.{post, admit, run, look, count, meter}
-use Rattle.rules.specs.Reasons.{Ground, on, grounds, Due, NoGround, Unadmitted, TextWrong, Reason}
+use Rattle.rules.specs.Reasons.{Ground, grounds, Due, NoGround, Unadmitted, TextWrong, Reason}
 use Rattle.rules.specs.Promises.{Why}
 use Rattle.rules.proofs.Benches.{sifted}
 

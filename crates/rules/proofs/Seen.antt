@@ -1,17 +1,17 @@
 -- What is seen at a label: labels in play, and that looking the same is an equivalence.
-use Rattle.std.proofs.Common.{◌≡◌, ℕ, suc, ◌<◌, Bool, true, false, cond, eqb, ltb, List, [], ◌∷◌, length, get_or, sym, refl, ap, ◌∙◌, arith}
-use Rattle.std.proofs.lemmas.Bool.{both_ways, ltb-true, ltb-false}
+use Rattle.std.proofs.Common.{◌≡◌, ℕ, suc, Bool, true, false, eqb, List, [], ◌∷◌, length, sym, refl, ap, ◌∙◌, arith}
+use Rattle.std.proofs.lemmas.Bool.{both_ways}
 use Rattle.std.proofs.lemmas.Bool.Decides.{nat_tests}
 use Rattle.lattice.specs.Order.{Order, Laws}
 use Rattle.rules.specs.Plans.{Plan}
-use Rattle.rules.specs.Scripts.{Mark, Expr}
+use Rattle.rules.specs.Scripts.{Expr}
 use Rattle.rules.specs.Scripts.Mark.{opened, tag_of}
 use Rattle.rules.specs.Scripts.Expr.{literal, mine, of_index, variable, cell, apply}
-use Rattle.rules.specs.Lots.{Lot, Lots, upd}
-use Rattle.rules.specs.Evaluation.{State, Cursors}
-use Rattle.rules.specs.Labels.{Name, Scope, enter, name_at, row_label, cell_label, mark_label, held_label, var_label, column_label, cursor_label, expr_label}
+use Rattle.rules.specs.Lots.{Lot, Lots}
+use Rattle.rules.specs.Evaluation.{State}
+use Rattle.rules.specs.Labels.{Name, Scope, enter, name_at, row_label, cell_label, held_label, var_label, column_label, expr_label}
 use Rattle.rules.specs.Labels.Name.{unknown, held, turn, cursor}
-use Rattle.rules.specs.Sight.{SameRow, SameRows, SameLot, SameLots, Same, SameCursors}
+use Rattle.rules.specs.Sight.{SameRow, SameRows, SameLot, SameLots, Same}
 use Rattle.rules.specs.Sight.SameRows.{none, more}
 
 -- a test that is not true is false

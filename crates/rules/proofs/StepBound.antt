@@ -1,15 +1,15 @@
 -- A block takes no more steps than its figure, and no lot outgrows its room.
-use Rattle.std.proofs.Common.{◌≡◌, ℕ, zero, suc, ◌+◌, ◌*◌, ◌<◌, ◌≤◌, Bool, true, false, cond, not, ◌&&◌, eqb, ltb, List, [], ◌∷◌, map, length, filter, sym, refl, ap, ◌∙◌, mul-le-mul_right, suc-mul, arith}
+use Rattle.std.proofs.Common.{◌≡◌, ℕ, zero, suc, ◌+◌, ◌*◌, ◌≤◌, Bool, true, false, cond, not, ◌&&◌, eqb, ltb, List, [], ◌∷◌, map, length, filter, refl, mul-le-mul_right, suc-mul, arith}
 use Rattle.std.proofs.lemmas.List.Filters.{length-filter_both}
 use Rattle.std.proofs.lemmas.List.{length-map}
-use Rattle.std.proofs.lemmas.Bool.{cond_both, ltb-true, ltb-false}
+use Rattle.std.proofs.lemmas.Bool.{cond_both, ltb-true}
 use Rattle.std.proofs.lemmas.Bool.Decides.{nat_tests}
 use Rattle.rules.specs.Pairs.{Pair, pair_at}
 use Rattle.rules.specs.Plans.{Plan}
 use Rattle.rules.specs.Scripts.{Code}
 use Rattle.rules.specs.Scripts.Code.{stop, var, set, if, when, vendors, each, add, drop, alter}
 use Rattle.rules.specs.Lots.{Lot, Lots, InRoom, table_at, room, longest, longest_of, upd, put_lot, enter_row}
-use Rattle.rules.specs.Evaluation.{Valuation, Cursors, State, eval, exec, ran, whom, put_index, run_for, count_steps, set_var, set_lot, walk, rounds, drop_rows, alter_rows}
+use Rattle.rules.specs.Evaluation.{Valuation, Cursors, State, eval, exec, whom, put_index, count_steps, set_var, set_lot, walk, rounds, drop_rows, alter_rows}
 use Rattle.rules.specs.Figures.{figure}
 
 room_of_list : (ps : List Pair) (v : ℕ) → (pair_at ps v).length ≤ longest_of ps

@@ -1,5 +1,5 @@
 -- One turn more of a loop over rows, over vendors and over their faults.
-use Rattle.std.proofs.Common.{◌≡◌, ℕ, suc, ◌+◌, ◌<◌, List, [], ◌∷◌, ◌++◌, length, get_or, take, Option, sym, refl, ap, ◌∙◌, add-one}
+use Rattle.std.proofs.Common.{◌≡◌, ℕ, ◌+◌, ◌<◌, List, [], ◌∷◌, ◌++◌, length, get_or, take, Option, refl, ap, ◌∙◌, add-one}
 use Rattle.std.proofs.lemmas.List.{take_more}
 use Rattle.rules.specs.Evaluation.{State, walk, rounds}
 use Rattle.rules.specs.Judging.{over, least_of}

@@ -1,25 +1,21 @@
 -- The promise over whole lists: first without the unseen posts, then call by call.
-use Rattle.std.proofs.Common.{◌≡◌, ℕ, Bool, true, false, cond, not, ◌&&◌, eqb, List, [], ◌∷◌, filter, sym, refl, ap, ◌∙◌, arith}
+use Rattle.std.proofs.Common.{◌≡◌, ℕ, Bool, true, false, cond, not, List, [], ◌∷◌, sym, refl, ap, ◌∙◌}
 use Rattle.std.specs.List.{AllZip, AllByRecursion as All}
 use Rattle.std.proofs.ByRecursion.{kept_by_passes, All-weaker}
 use Rattle.std.proofs.lemmas.Bool.{both_ways, and_parts, not-true, not_from_true, true≢false, false≢true}
-use Rattle.std.proofs.lemmas.Bool.Decides.{nat_tests}
 use Rattle.rules.specs.declared.answer.Answer.{Answer}
 use Rattle.lattice.specs.Order.{Order, Laws}
 use Rattle.rules.specs.Plans.{Plan}
-use Rattle.rules.specs.Lots.{Lot, Lots, put_lot}
-use Rattle.rules.specs.Labels.{row_label}
 use Rattle.rules.specs.Admission.{Reading}
-use Rattle.rules.specs.Calls.{Bench, new_bench, Call, checks, effect, outcome, reply, step, bench_of}
+use Rattle.rules.specs.Calls.{Bench, new_bench, Call, checks, outcome, step, bench_of}
 use Rattle.rules.specs.Calls.Call.{post, admit, run, look, count, meter}
-use Rattle.rules.specs.Sight.{SameLot, SameLots}
 use Rattle.rules.specs.Agreement.{unseen, strike, Alike, hears, heard}
 use Rattle.rules.specs.Agreement.Alike.{equal}
 use Rattle.rules.specs.Promises.{TwoBenches}
 use Rattle.rules.proofs.Seen.{lot_sym, lot_trans, lots_refl}
 use Rattle.rules.proofs.Confined.{put_unseen}
 use Rattle.rules.proofs.Benches.{sifted, Orderly, new_orderly, orderly_step}
-use Rattle.rules.proofs.Benchmates.{admits, Mates, Paced, paced}
+use Rattle.rules.proofs.Benchmates.{admits, Mates, paced}
 
 heard_both : (x y : Bool) (p q : Answer) (ps qs : List Answer) → x ≡ y → (x ≡ true → p ≡ q) → ps ≡ qs → cond x (p ∷ ps) ps ≡ cond y (q ∷ qs) qs
 heard_both true true p q ps qs e h k = ap (λ r. r ∷ ps) (h refl) ∙ ap (λ rs. q ∷ rs) k

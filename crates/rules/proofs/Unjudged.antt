@@ -1,5 +1,5 @@
 -- Without the judge two lists that agree are answered differently.
-use Rattle.std.proofs.Common.{◌≡◌, ℕ, refl, ap, arith}
+use Rattle.std.proofs.Common.{◌≡◌, ℕ, refl, arith}
 use Rattle.lattice.specs.Order.{Laws}
 use Rattle.lattice.specs.Built.{compartments}
 use Rattle.rules.specs.Evaluation.{eval, exec, ran}

@@ -1,5 +1,5 @@
 -- The worked cases, by computing.
-use Rattle.std.proofs.Common.{◌≡◌, refl}
+use Rattle.std.proofs.Common.{refl}
 use Rattle.rules.specs.Evaluation.{eval, exec, ran}
 use Rattle.rules.specs.Labels.{expr_label}
 use Rattle.rules.specs.Figures.{figure}

@@ -1,5 +1,5 @@
 -- The admission of a text: it is read, judged, and its figure taken.
-use Rattle.std.specs.Prelude.{ℕ, Bool, List, [], ◌∷◌, length, is_some, Some, None, Ok, Err, Option, Result, nat_lt}
+use Rattle.std.specs.Prelude.{ℕ, List, [], ◌∷◌, length, is_some, Some, None, Ok, Option, Result, nat_lt}
 use Rattle.rules.specs.declared.refusal.Refusal.{Refusal}
 use Rattle.rules.specs.declared.refusal.Refusal.TheVariants.{FlowNotAllowed, FigureTooHigh}
 use Rattle.lattice.specs.Order.{Order}

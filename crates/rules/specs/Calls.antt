@@ -1,5 +1,5 @@
 -- The live bench and its six calls.
-use Rattle.std.specs.Prelude.{ℕ, Bool, not, List, [], ◌∷◌, length, is_some, Some, None, Ok, Err, Option, Result, ◌==◌, nat_le, nat_lt, slice_index, slice_index_or}
+use Rattle.std.specs.Prelude.{ℕ, not, List, [], ◌∷◌, length, is_some, Some, None, Ok, Err, Option, Result, ◌==◌, nat_le, nat_lt, slice_index, slice_index_or}
 use Rattle.rules.specs.declared.refusal.Refusal.{Refusal}
 use Rattle.rules.specs.declared.refusal.Refusal.TheVariants.{ClearanceNoLabel, NoSuchTable, NoSuchVendor, NoSuchColumn, ValueCount, NotCleared, NoSuchRow, LotFull, NoSuchSlot, SlotEmpty}
 use Rattle.rules.specs.declared.answer.Answer.{Answer}
@@ -7,9 +7,8 @@ use Rattle.rules.specs.declared.answer.Answer.TheVariants.{Done, Figure, Cell, R
 use Rattle.lattice.specs.Order.{Order}
 use Rattle.rules.specs.Guards.{Check, sift, and_then}
 use Rattle.rules.specs.Plans.{Plan}
-use Rattle.rules.specs.Scripts.{Code}
 use Rattle.rules.specs.Scripts.Code.{stop}
-use Rattle.rules.specs.Lots.{Lot, Lots, no_rows, width, room, upd, put_lot}
+use Rattle.rules.specs.Lots.{Lots, no_rows, width, room, upd, put_lot}
 use Rattle.rules.specs.Evaluation.{ran}
 use Rattle.rules.specs.Labels.{row_label, cell_label}
 use Rattle.rules.specs.Admission.{Script, Admission}

@@ -9,15 +9,15 @@ use Rattle.lattice.specs.Built.{compartments, contributors, grades}
 use Rattle.rules.specs.Guards.{sift, and_then}
 use Rattle.rules.specs.Pairs.{Pair}
 use Rattle.rules.specs.Plans.{Plan, Table, declare}
-use Rattle.rules.specs.Scripts.{Index, Mark, Expr, Code}
+use Rattle.rules.specs.Scripts.{Expr, Code}
 use Rattle.rules.specs.Scripts.Index.{number, me, index}
 use Rattle.rules.specs.Scripts.Mark.{opened, tag_of}
 use Rattle.rules.specs.Scripts.Op.{plus, equal}
 use Rattle.rules.specs.Scripts.Expr.{literal, variable, cell, apply}
-use Rattle.rules.specs.Scripts.Code.{stop, var, set, if, when, vendors, each, add, drop, alter}
+use Rattle.rules.specs.Scripts.Code.{stop, var, set, if, when, vendors, each, add, drop}
 use Rattle.rules.specs.Figures.{figure}
 use Rattle.rules.specs.Judging.{judge}
-use Rattle.rules.specs.Admission.{Script, Reading, Admission, admit_code, admission}
+use Rattle.rules.specs.Admission.{Reading, Admission, admit_code, admission}
 use Rattle.rules.specs.Calls.{new_bench, Call, answers}
 use Rattle.rules.specs.Calls.Call.{post, admit, run, look, count, meter}
 use Rattle.rules.specs.Agreement.{strike, Agree, heard}

@@ -1,5 +1,5 @@
 -- Scripts that name no table and no vendor outside the plan, as those that are read.
-use Rattle.std.specs.Prelude.{ℕ, Bool, true, false, ◌&&◌, length, nat_lt}
+use Rattle.std.specs.Prelude.{ℕ, Bool, true, ◌&&◌, length, nat_lt}
 use Rattle.rules.specs.Plans.{Plan}
 use Rattle.rules.specs.Scripts.{Index, Code}
 use Rattle.rules.specs.Scripts.Index.{number, me, index}

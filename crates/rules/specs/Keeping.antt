@@ -1,5 +1,5 @@
 -- What every lot keeps, and what it asks of the scripts that are read and of the values that are posted.
-use Rattle.std.specs.Prelude.{◌≡◌, ℕ, ◌≤◌, Bool, true, false, ◌&&◌, List, [], ◌∷◌, length, Ok, ◌==◌, nat_le}
+use Rattle.std.specs.Prelude.{◌≡◌, ℕ, ◌≤◌, Bool, true, ◌&&◌, List, [], ◌∷◌, length, Ok, ◌==◌, nat_le}
 use Rattle.std.specs.List.{AllByRecursion as All}
 use Rattle.rules.specs.Plans.{Plan}
 use Rattle.rules.specs.Scripts.{Expr, Code}

@@ -1,5 +1,5 @@
 -- The lots of a bench: what each holds, and how a row enters.
-use Rattle.std.specs.Prelude.{ℕ, ◌+◌, ◌≤◌, min, max, Bool, cond, ◌&&◌, List, [], ◌∷◌, length, ◌==◌, nat_lt, slice_index_or}
+use Rattle.std.specs.Prelude.{ℕ, ◌+◌, ◌≤◌, min, max, cond, ◌&&◌, List, [], ◌∷◌, length, ◌==◌, nat_lt, slice_index_or}
 use Rattle.rules.specs.Pairs.{Pair, pair_at}
 use Rattle.rules.specs.Plans.{Plan, Table}
 

@@ -1,5 +1,5 @@
 -- Pairs of offset and length, and the rule that keeps them apart and inside a table.
-use Rattle.std.specs.Prelude.{◌≡◌, ℕ, ◌+◌, ◌<◌, ◌≤◌, Bool, true, false, ◌&&◌, List, [], ◌∷◌, length, nat_le, slice_index_or}
+use Rattle.std.specs.Prelude.{◌≡◌, ℕ, ◌+◌, ◌<◌, ◌≤◌, Bool, true, ◌&&◌, List, [], ◌∷◌, length, nat_le, slice_index_or}
 
 -- A run of slots: `length` of them, from `offset` on.
 pub record Pair : Type 0 where

@@ -1,5 +1,5 @@
 -- A plan: the vendor count and the tables; and the calls that make one.
-use Rattle.std.specs.Prelude.{ℕ, Bool, true, false, not, ◌&&◌, ◌||◌, List, [], ◌∷◌, ◌++◌, length, Ok, Err, Result, ◌==◌, nat_le, nat_lt}
+use Rattle.std.specs.Prelude.{ℕ, Bool, true, false, not, ◌&&◌, ◌||◌, List, [], ◌∷◌, ◌++◌, length, Ok, Result, ◌==◌, nat_le, nat_lt}
 use Rattle.rules.specs.declared.refusal.Refusal.{Refusal}
 use Rattle.rules.specs.declared.refusal.Refusal.TheVariants.{VendorCount, VendorCountFixed, TooManyTables, ColumnCount, FamilyTooHigh, PairCount, PairRule}
 use Rattle.rules.specs.Guards.{guard}

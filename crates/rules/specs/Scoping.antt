@@ -1,5 +1,5 @@
 -- Scripts whose names are all in scope, as those that are read: at most 16 names at a time, and no name used where it is not.
-use Rattle.std.specs.Prelude.{ℕ, suc, Bool, true, false, ◌&&◌, List, [], ◌∷◌, nat_lt}
+use Rattle.std.specs.Prelude.{ℕ, suc, Bool, true, ◌&&◌, List, [], ◌∷◌, nat_lt}
 use Rattle.rules.specs.Scripts.{Index, Mark, Expr, Code}
 use Rattle.rules.specs.Scripts.Index.{number, me, index}
 use Rattle.rules.specs.Scripts.Mark.{opened, tag_of}

@@ -1,5 +1,5 @@
 -- What somebody at a label sees: when two states look the same there.
-use Rattle.std.specs.Prelude.{◌≡◌, ℕ, Bool, true, List, [], ◌∷◌, length, slice_index}
+use Rattle.std.specs.Prelude.{◌≡◌, ℕ, true, List, [], ◌∷◌, length, slice_index}
 use Rattle.lattice.specs.Order.{Order}
 use Rattle.rules.specs.Plans.{Plan}
 use Rattle.rules.specs.Lots.{Lot, Lots}

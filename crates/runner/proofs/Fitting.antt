@@ -4,7 +4,7 @@ use Rattle.std.proofs.lemmas.Bool.{and_parts, ltb-true, lt-ltb, not-true}
 use Rattle.rules.specs.Plans.{Plan}
 use Rattle.rules.specs.Scripts.{Index, Mark, Expr, Code}
 use Rattle.rules.specs.Scripts.Index.{number, me, index}
-use Rattle.rules.specs.Scripts.Code.{stop, var, set, if, when, vendors, each, add, drop, alter}
+use Rattle.rules.specs.Scripts.Code.{var, set, if, when, vendors, each, add, drop, alter}
 use Rattle.rules.specs.Evaluation.{Valuation, whom, put_index}
 use Rattle.rules.specs.Writes.{steady, writes}
 use Rattle.rules.specs.Scoping.{scoped, nameable, most_names, mark_scoped, index_scoped, expr_scoped, exprs_scoped}

@@ -1,5 +1,5 @@
 -- The turns of `vendors` and `each`.
-use Rattle.std.proofs.Common.{◌≡◌, ℕ, zero, suc, ◌+◌, ◌<◌, ◌≤◌, Bool, true, false, cond, List, [], ◌∷◌, length, get_or, take, sym, refl, ap, ◌∙◌, subst, arith, take_all}
+use Rattle.std.proofs.Common.{◌≡◌, ℕ, suc, ◌+◌, ◌<◌, true, false, List, [], ◌∷◌, length, get_or, take, sym, refl, ap, ◌∙◌, subst, arith, take_all}
 use Rattle.rules.specs.Plans.{Plan}
 use Rattle.rules.specs.Scripts.{Index, Code}
 use Rattle.rules.specs.Scripts.Code.{vendors, each}

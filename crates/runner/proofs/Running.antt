@@ -1,12 +1,12 @@
 -- A block is run by its first statement and what follows it.
-use Rattle.std.proofs.Common.{◌≡◌, ℕ, suc, ◌<◌, ◌≤◌, Bool, true, false, cond, eqb, List, [], ◌∷◌, map, sym, refl, ap, ◌∙◌, subst}
+use Rattle.std.proofs.Common.{◌≡◌, ℕ, suc, Bool, true, false, cond, eqb, List, map, sym, ap, ◌∙◌, subst}
 use mathlib.Core.Path.{fun_ext}
 use Rattle.std.proofs.lemmas.Bool.{cond-true}
 use Rattle.rules.specs.Plans.{Plan}
 use Rattle.rules.specs.Scripts.{Index, Mark, Expr, Code}
-use Rattle.rules.specs.Scripts.Code.{stop, var, set, if, when, vendors, each, add, drop, alter}
+use Rattle.rules.specs.Scripts.Code.{stop, var, set, if, when, add, drop, alter}
 use Rattle.rules.specs.Lots.{upd}
-use Rattle.rules.specs.Evaluation.{Valuation, Cursors, State, eval, exec, whom, put_index, count_steps, do_set, do_add, do_drop, do_alter}
+use Rattle.rules.specs.Evaluation.{Valuation, Cursors, State, eval, exec, whom, count_steps, do_set, do_add, do_drop, do_alter}
 use Rattle.rules.specs.Scoping.{nameable}
 use Rattle.script.specs.declared.script.Script.{Script}
 use Rattle.script.specs.declared.node.Stmt.{Stmt}
@@ -16,7 +16,7 @@ use Rattle.lots.specs.declared.store.Store.{Store}
 use Rattle.runner.specs.declared.env.Env.{Env}
 use Rattle.runner.specs.declared.locals.Locals.{Locals}
 use Rattle.runner.specs.Names.{val_of, cursors_of, vars_of, Renamed}
-use Rattle.runner.specs.OfRows.{row_value, cursors_with}
+use Rattle.runner.specs.OfRows.{row_value}
 use Rattle.runner.specs.Standing.{Stands, Does, DoesLocally, LotThere, Fits, Runs}
 use Rattle.runner.proofs.Fitting.{fits_var, fits_set, fits_if, fits_when, fits_add, fits_drop, fits_alter}
 

@@ -1,5 +1,5 @@
 -- A lot that `drop` or `alter` goes through.
-use Rattle.std.proofs.Common.{◌≡◌, ℕ, ◌+◌, min, length, sym, refl, ap, ◌∙◌, arith}
+use Rattle.std.proofs.Common.{◌≡◌, ℕ, ◌+◌, min, length, ap, ◌∙◌, arith}
 use Rattle.rules.specs.Plans.{Plan}
 use Rattle.rules.specs.Lots.{Lot, Lots, last_word, put_lot}
 use Rattle.rules.specs.Evaluation.{State, set_lot, count_steps}

@@ -1,5 +1,5 @@
 -- A whole script is run as the rules run it: its steps are at most its figure, so the count of the code never stops.
-use Rattle.std.proofs.Common.{◌≡◌, ℕ, min, true, [], sym, refl, ap, ◌∙◌, subst, arith}
+use Rattle.std.proofs.Common.{◌≡◌, ℕ, true, [], sym, refl, ◌∙◌, subst, arith}
 use Rattle.rules.specs.Plans.{Plan, sound}
 use Rattle.rules.specs.Scripts.{Code}
 use Rattle.rules.specs.Evaluation.{Cursors, State, ran, run_for}

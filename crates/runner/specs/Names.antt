@@ -1,5 +1,5 @@
 -- What the names in scope stand for, as the code holds them.
-use Rattle.std.specs.Prelude.{◌≡◌, ℕ, suc, Bool, true, cond, List, [], map, slice_index, slice_index_or}
+use Rattle.std.specs.Prelude.{◌≡◌, ℕ, suc, cond, [], map, slice_index, slice_index_or}
 use Rattle.rules.specs.Scoping.{nameable}
 use Rattle.rules.specs.Evaluation.{Valuation, Cursors, run_for}
 use Rattle.lots.specs.Rows.{row_of}

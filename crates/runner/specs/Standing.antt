@@ -1,5 +1,5 @@
 -- What a run has come to, as the code holds it.
-use Rattle.std.specs.Prelude.{◌≡◌, ℕ, ◌<◌, ◌≤◌, min, Bool, true, length}
+use Rattle.std.specs.Prelude.{◌≡◌, ℕ, ◌<◌, ◌≤◌, min, true, length}
 use Rattle.rules.specs.Plans.{Plan, sound}
 use Rattle.rules.specs.Scripts.{Code}
 use Rattle.rules.specs.Lots.{last_word}

@@ -1,5 +1,6 @@
 // Running a script over the lots of a bench: it needs no memory but its own.
 #![tactic(auto)]
+
 pub mod blocks;
 pub mod counting;
 pub mod env;

@@ -1,5 +1,5 @@
 -- A script at a place.
-use Rattle.std.proofs.Common.{◌≡◌, ℕ, suc, ◌+◌, ◌-◌, ◌<◌, ◌≤◌, Bool, true, false, ◌&&◌, List, [], ◌∷◌, ◌++◌, length, get_or, sym, refl, ap, ◌∙◌, arith}
+use Rattle.std.proofs.Common.{◌≡◌, ℕ, ◌+◌, ◌-◌, ◌<◌, ◌≤◌, true, List, [], ◌∷◌, length, get_or, sym, refl, ap, ◌∙◌, arith}
 use Rattle.std.proofs.lemmas.List.{get_or_past}
 use Rattle.std.proofs.lemmas.Bool.{and_parts}
 use Rattle.rules.specs.Scripts as rules
@@ -8,7 +8,7 @@ use Rattle.script.specs.declared.node.Stmt.{Stmt}
 use Rattle.script.specs.Nodes.{expr_of, code_of, expr_at, block_at}
 use Rattle.script.specs.Ordered.{all_below, parts, blocks_in, exprs_in, exprs_ordered, stmt_ordered, stmts_ordered}
 use Rattle.script.specs.Meaning.{grown_exprs, grown_codes}
-use Rattle.script.proofs.Grown.{Same, grow_at, grow_front}
+use Rattle.script.proofs.Grown.{grow_at, grow_front}
 use Rattle.script.proofs.Order.{expr_local, code_local, below_more, expr_ordered_at, stmt_ordered_at}
 use Rattle.script.proofs.Pushes.{as_many_exprs, as_many_codes}
 

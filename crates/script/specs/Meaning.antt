@@ -1,5 +1,5 @@
 -- What a script of the code stands for.
-use Rattle.std.specs.Prelude.{List, [], ◌∷◌, get_or}
+use Rattle.std.specs.Prelude.{List, [], ◌∷◌}
 use Rattle.inplace.specs.Held.{held}
 use Rattle.rules.specs.Scripts as rules
 use Rattle.script.specs.declared.node.Expr.{Expr}

@@ -1,5 +1,5 @@
 -- What a node stands for, given what the nodes before it stand for.
-use Rattle.std.specs.Prelude.{ℕ, List, [], ◌∷◌, map, slice_index_or}
+use Rattle.std.specs.Prelude.{ℕ, List, map, slice_index_or}
 use Rattle.inplace.specs.Held.{held}
 use Rattle.rules.specs.Scripts as rules
 use Rattle.script.specs.declared.node.Index.{Index}

@@ -1,5 +1,5 @@
 -- Parts stand before what they are part of.
-use Rattle.std.specs.Prelude.{ℕ, suc, ◌+◌, Bool, true, false, ◌&&◌, List, [], ◌∷◌, nat_lt}
+use Rattle.std.specs.Prelude.{ℕ, suc, Bool, true, ◌&&◌, List, [], ◌∷◌, nat_lt}
 use Rattle.inplace.specs.Held.{held}
 use Rattle.script.specs.declared.node.Expr.{Expr}
 use Rattle.script.specs.declared.node.Expr.TheVariants.{Literal, Mine, OfIndex, Variable, Cell, Apply}

@@ -1,5 +1,5 @@
 -- One node more.
-use Rattle.std.specs.Prelude.{ℕ, Bool, true, false, cond, ◌&&◌, List, [], ◌∷◌, ◌++◌, length, Some, None, Option, nat_lt}
+use Rattle.std.specs.Prelude.{ℕ, Bool, true, false, ◌&&◌, List, [], ◌∷◌, ◌++◌, length, Some, None, Option, nat_lt}
 use Rattle.rules.specs.Scripts as rules
 use Rattle.script.specs.declared.node.Expr.{Expr}
 use Rattle.script.specs.declared.node.Stmt.{Stmt}

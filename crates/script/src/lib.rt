@@ -1,6 +1,7 @@
 // A script as it is held: two lists of nodes, in which parts stand before what they are part of, so that nothing has to be
 // allocated to build one.
 #![tactic(auto)]
+
 pub mod build;
 pub mod node;
 pub mod read;

@@ -2,8 +2,8 @@
 #[cfg(test)]
 mod tests {
     use crate::small::{push, push_expr, three_vendors};
-    use inplace::ArrayVec;
     use explain::explain;
+    use inplace::ArrayVec;
     use lattice::Compartments;
     use script::{Expr, Index, Mark, Op, Script, Stmt};
     use std::process::Abort;

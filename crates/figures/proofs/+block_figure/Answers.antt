@@ -1,8 +1,8 @@
-use Rattle.std.proofs.Common.{◌≡◌, min, sym, refl, ap, ◌∙◌, arith}
+use Rattle.std.proofs.Common.{min, sym, ap, ◌∙◌, arith}
 use Rattle.rules.specs.Figures.{figure}
 use Rattle.layout.specs.Plans.{plan_of}
 use Rattle.script.specs.Meaning.{exprs_of, codes_of}
-use Rattle.script.specs.Nodes.{block_at, code_of}
+use Rattle.script.specs.Nodes.{block_at}
 use Rattle.figures.proofs.Steps.{figure_of_stmt, turns_figure}
 use Rattle.figures.proofs.+block_figure.Goals as goal
 

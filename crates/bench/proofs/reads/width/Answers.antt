@@ -1,4 +1,4 @@
-use Rattle.std.proofs.Common.{◌≡◌, length, sym, ap, ◌∙◌}
+use Rattle.std.proofs.Common.{length, ap, ◌∙◌}
 use Rattle.calls.proofs.TableReads.{table_read, table_past}
 use Rattle.bench.proofs.reads.width.Goals as goal
 

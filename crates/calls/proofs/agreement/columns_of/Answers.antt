@@ -1,4 +1,4 @@
-use Rattle.std.proofs.Common.{◌≡◌, length, ap, ◌∙◌}
+use Rattle.std.proofs.Common.{length, ap, ◌∙◌}
 use Rattle.calls.proofs.TableReads.{table_read, table_past}
 use Rattle.calls.proofs.agreement.columns_of.Goals as goal
 

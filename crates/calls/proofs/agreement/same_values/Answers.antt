@@ -1,4 +1,4 @@
-use Rattle.std.proofs.Common.{◌≡◌, ◌<◌, length, sym, ◌∙◌, arith}
+use Rattle.std.proofs.Common.{◌<◌, length, sym, ◌∙◌, arith}
 use Rattle.layout.specs.Plans.{plan_of}
 use Rattle.calls.proofs.ValueSteps.{unequal_lengths, values_equal, values_hidden, values_differ, values_all}
 use Rattle.calls.proofs.agreement.same_values.Goals as goal

@@ -1,4 +1,4 @@
-use Rattle.std.proofs.Common.{◌≡◌, length}
+use Rattle.std.proofs.Common.{◌≡◌}
 use Rattle.layout.specs.Plans.{plan_of}
 use Rattle.rules.specs.Deciding.{same_values}
 use Rattle.calls.proofs.ValueSteps.{left_of}

@@ -1,4 +1,4 @@
-use Rattle.std.proofs.Common.{◌≡◌, sym, refl, ap, ◌∙◌}
+use Rattle.std.proofs.Common.{sym, refl, ap, ◌∙◌}
 use Rattle.layout.specs.Plans.{plan_of}
 use Rattle.rules.specs.Evaluation.{run_for}
 use Rattle.rules.specs.Labels.{no_names}

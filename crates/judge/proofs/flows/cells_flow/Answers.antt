@@ -1,4 +1,4 @@
-use Rattle.std.proofs.Common.{◌≡◌, ◌+◌, ◌&&◌, sym, refl, ap, ◌∙◌}
+use Rattle.std.proofs.Common.{◌+◌, ◌&&◌, sym, ap, ◌∙◌}
 use Rattle.layout.specs.Plans.{plan_of}
 use Rattle.script.specs.Meaning.{exprs_of}
 use Rattle.judge.specs.Names.{scope_of}

@@ -1,4 +1,4 @@
-use Rattle.std.proofs.Common.{◌≡◌, ◌-◌, ltb, length, Ok, sym, refl, ap, ◌∙◌, arith, rules}
+use Rattle.std.proofs.Common.{◌≡◌, ◌-◌, ltb, length, Ok, sym, ap, ◌∙◌, arith, rules}
 use Rattle.std.proofs.lemmas.Bool.{and_from, lt-ltb}
 use Rattle.std.proofs.lemmas.Result.{err_from_is_err_and}
 use Rattle.rules.specs.Scripts as rules
@@ -6,7 +6,7 @@ use Rattle.grammar.specs.declared.marks.Mark.TheVariants.{Equals}
 use Rattle.grammar.specs.Tokens.{is_mark}
 use Rattle.grammar.specs.Steps.{expect}
 use Rattle.grammar.specs.Clauses.{read_index}
-use Rattle.grammar.specs.Statements.{naming, two_blocks, read_when}
+use Rattle.grammar.specs.Statements.{naming, two_blocks}
 use Rattle.grammar.specs.Reading.{begin, read_rest}
 use Rattle.lexis.specs.Meaning.{text_of, place_of}
 use Rattle.script.specs.Nodes.{code_of, index_of}

@@ -1,4 +1,4 @@
-use Rattle.std.proofs.Common.{◌≡◌, sym, ap, ◌∙◌, rules}
+use Rattle.std.proofs.Common.{sym, ap, ◌∙◌, rules}
 use Rattle.grammar.specs.declared.marks.Mark.TheVariants.{Semicolon}
 use Rattle.grammar.specs.Tokens.{is_mark}
 use Rattle.grammar.specs.Steps.{expect}

@@ -1,5 +1,5 @@
 -- A block is run statement by statement.
-use Rattle.std.proofs.Common.{◌≡◌, ℕ, ◌<◌, cond, eqb, map, length, sym, refl, ap, ◌∙◌, subst, arith}
+use Rattle.std.proofs.Common.{◌≡◌, ◌<◌, cond, eqb, map, length, sym, ap, ◌∙◌, subst, arith}
 use mathlib.Core.List.{map-map}
 use Rattle.inplace.specs.Held.{held}
 use Rattle.rules.specs.Lots.{upd}
@@ -10,7 +10,7 @@ use Rattle.lots.specs.Rows.{row_of}
 use Rattle.lots.specs.Stores.{lots_of}
 use Rattle.runner.specs.Names.{val_of, cursors_of, vars_of}
 use Rattle.runner.proofs.Running.{as_read, renamed_runs, begins, picks, stop_runs, var_runs, set_runs, if_runs, when_runs, add_runs, drop_runs, alter_runs}
-use Rattle.runner.proofs.Loops.{Turned, Walked, turned_more, vendors_run, walked_more, each_run}
+use Rattle.runner.proofs.Loops.{Turned, turned_more, vendors_run, walked_more, each_run}
 use Rattle.runner.proofs.blocks.+run_block.Goals as goal
 
 pub returns-in_default : goal.returns-in_default

@@ -1,4 +1,4 @@
-use Rattle.std.proofs.Common.{◌≡◌, get_or, sym, refl, ap, ◌∙◌}
+use Rattle.std.proofs.Common.{get_or, sym, ap, ◌∙◌}
 use Rattle.rules.specs.Evaluation.{eval, operate}
 use Rattle.script.specs.Nodes.{op_of}
 use Rattle.runner.specs.Names.{val_of, cursors_of, vars_of}

@@ -1,6 +1,6 @@
 use Rattle.std.proofs.Common.{ap, ◌∙◌, arith}
 use Rattle.lots.specs.Rows.{row_of}
-use Rattle.lots.specs.Stores.{lots_of, pairs_of, plan_pairs, row_entered}
+use Rattle.lots.specs.Stores.{lots_of, plan_pairs, row_entered}
 use Rattle.lots.proofs.Keeping.{plan_lots}
 use Rattle.runner.proofs.flat.add_row.Goals as goal
 

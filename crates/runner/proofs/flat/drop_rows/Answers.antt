@@ -1,6 +1,6 @@
 use Rattle.rules.specs.Evaluation.{drop_rows}
 use Rattle.runner.specs.OfRows.{row_value}
-use Rattle.runner.proofs.Visits.{Counted, visited}
+use Rattle.runner.proofs.Visits.{visited}
 use Rattle.runner.proofs.flat.drop_rows.Goals as goal
 
 pub returns : goal.returns

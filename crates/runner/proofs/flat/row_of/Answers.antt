@@ -1,4 +1,4 @@
-use Rattle.std.proofs.Common.{◌≡◌, ℕ, ◌≤◌, map, length, take, sym, refl, ap, ◌∙◌, arith, length-take, take_all}
+use Rattle.std.proofs.Common.{ℕ, ◌≤◌, map, length, ap, ◌∙◌, arith, length-take, take_all}
 use Rattle.rules.specs.Evaluation.{eval}
 use Rattle.script.specs.Nodes.{expr_at}
 use Rattle.script.specs.Meaning.{exprs_of}

@@ -1,9 +1,7 @@
-use Rattle.std.proofs.Common.{◌≡◌, sym, refl, ap, ◌∙◌, subst}
+use Rattle.std.proofs.Common.{subst}
 use Rattle.layout.specs.Plans.{plan_of}
-use Rattle.script.specs.Nodes.{block_at}
-use Rattle.script.specs.Meaning.{script_of, codes_of}
+use Rattle.script.specs.Meaning.{script_of}
 use Rattle.runner.specs.Names.{val_of, cursors_of, Nameless}
-use Rattle.runner.specs.Standing.{Runs}
 use Rattle.runner.proofs.Running.{as_read}
 use Rattle.runner.proofs.Wholes.{ran_whole}
 use Rattle.runner.proofs.whole.run.Goals as goal

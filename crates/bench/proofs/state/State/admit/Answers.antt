@@ -1,4 +1,4 @@
-use Rattle.std.proofs.Common.{◌≡◌, ℕ, ◌<◌, length, Option, sym, refl, ap, ◌∙◌, arith, rules}
+use Rattle.std.proofs.Common.{ℕ, ◌<◌, length, Option, sym, ap, ◌∙◌, arith, rules}
 use Rattle.rules.specs.Admission.{Script}
 use Rattle.rules.specs.Calls.{Bench, outcome, reply_of}
 use Rattle.rules.specs.Calls as rules

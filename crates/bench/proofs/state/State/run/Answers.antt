@@ -1,4 +1,4 @@
-use Rattle.std.proofs.Common.{◌≡◌, ◌<◌, sym, refl, ap, ◌∙◌, arith, rules}
+use Rattle.std.proofs.Common.{◌<◌, sym, refl, ap, ◌∙◌, arith, rules}
 use Rattle.rules.specs.Lots.{Lots}
 use Rattle.rules.specs.Calls.{Bench, outcome, reply_of}
 use Rattle.rules.specs.Calls as rules

@@ -1,6 +1,5 @@
 use Rattle.std.proofs.Common.{sym}
 use Rattle.std.proofs.lemmas.Bool.{lt-ltb, le-ltb, cond-true, cond-false}
-use Rattle.rules.specs.Labels as rules
 use Rattle.explain.specs.Names.{scope_of}
 use Rattle.explain.proofs.scope.Scope.at.Goals as goal
 

@@ -1,6 +1,6 @@
-use Rattle.std.proofs.Common.{◌≡◌, ◌<◌, ◌≤◌, true, [], ◌∷◌, ◌++◌, length, take, sym, refl, ap, ◌∙◌, arith, length-take, take_all, rules}
+use Rattle.std.proofs.Common.{◌≡◌, ◌<◌, true, length, take, sym, ap, ◌∙◌, arith, length-take, take_all}
 use Rattle.std.proofs.lemmas.Bool.{ltb-true}
-use Rattle.std.proofs.lemmas.List.{take_more, get_or_read}
+use Rattle.std.proofs.lemmas.List.{take_more}
 use Rattle.inplace.specs.Held.{held}
 use Rattle.inplace.proofs.array_vec.ArrayVec.from_slice.Goals as goal
 

@@ -1,4 +1,4 @@
-use Rattle.std.proofs.Common.{refl, ap, add-one, arith}
+use Rattle.std.proofs.Common.{refl, add-one, arith}
 use Rattle.judge.specs.declared.name.Name.TheVariants.{Unknown}
 use Rattle.judge.specs.Names.{name_of, scope_of}
 use Rattle.judge.proofs.Levels.{set_is_upd, same_scope}

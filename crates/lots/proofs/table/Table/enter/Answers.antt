@@ -1,5 +1,4 @@
 use Rattle.std.proofs.Common.{◌+◌, ◌≤◌, ◌∷◌, set, sym, refl, ap, ◌∙◌, arith, length-set}
-use Rattle.rules.specs.Lots.{Lot}
 use Rattle.lots.specs.declared.lot.Lot as coded
 use Rattle.lots.specs.Rows.{row_of}
 use Rattle.lots.specs.Lots.{lot_in}

@@ -1,4 +1,4 @@
-use Rattle.std.proofs.Common.{sym, refl, ap}
+use Rattle.std.proofs.Common.{sym, ap}
 use Rattle.rules.specs.Evaluation.{whom}
 use Rattle.script.specs.Nodes.{index_of}
 use Rattle.runner.specs.Names.{val_of}

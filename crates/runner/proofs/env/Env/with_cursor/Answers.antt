@@ -1,4 +1,4 @@
-use Rattle.std.proofs.Common.{◌<◌, [], length, sym, refl, ◌∙◌, arith}
+use Rattle.std.proofs.Common.{◌<◌, [], length, refl, arith}
 use Rattle.lots.specs.Rows.{row_of}
 use Rattle.runner.specs.Names.{val_of, cursors_of}
 use Rattle.runner.proofs.Levels.{map_set_is_upd}

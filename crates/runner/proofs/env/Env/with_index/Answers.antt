@@ -1,4 +1,4 @@
-use Rattle.std.proofs.Common.{◌<◌, length, sym, refl, ◌∙◌, arith}
+use Rattle.std.proofs.Common.{◌<◌, length, refl, arith}
 use Rattle.runner.specs.Names.{val_of, cursors_of}
 use Rattle.runner.proofs.Levels.{set_is_upd, same_valuation}
 use Rattle.runner.proofs.Renaming.{not_renamed, renamed}

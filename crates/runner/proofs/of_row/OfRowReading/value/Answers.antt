@@ -1,4 +1,4 @@
-use Rattle.std.proofs.Common.{◌≡◌, Bool, true, false, cond, sym, refl, ap, ◌∙◌}
+use Rattle.std.proofs.Common.{◌≡◌, Bool, true, false, cond, refl, ap, ◌∙◌}
 use Rattle.rules.specs.Scoping.{nameable}
 use Rattle.rules.specs.Evaluation.{eval}
 use Rattle.script.specs.Nodes.{expr_at}

@@ -1,4 +1,4 @@
-use Rattle.std.proofs.Common.{◌≡◌, sym, refl, ap, ◌∙◌}
+use Rattle.std.proofs.Common.{refl}
 use Rattle.inplace.specs.Held.{held}
 use Rattle.script.specs.Meaning.{exprs_of}
 use Rattle.script.proofs.Places.{expr_place, no_expr}

@@ -1,5 +1,4 @@
-use Rattle.std.proofs.Common.{◌≡◌, refl, ap, ◌∙◌, ap₂}
-use Rattle.rules.specs.Scripts as rules
+use Rattle.std.proofs.Common.{ap, ap₂}
 use Rattle.script.specs.Meaning.{exprs_of, codes_of, grown_exprs, grown_codes}
 use Rattle.script.specs.Nodes.{block_at}
 use Rattle.script.proofs.script.Script.new.Goals as goal

@@ -1,4 +1,4 @@
-use Rattle.std.proofs.Common.{◌≡◌, ◌<◌, ◌≤◌, true, false, length, Some, None, sym, refl, ap, ◌∙◌, ap₂, arith}
+use Rattle.std.proofs.Common.{◌≡◌, true, false, length, Some, sym, refl, ap, ◌∙◌, arith}
 use Rattle.inplace.specs.Held.{held}
 use Rattle.script.specs.Nodes.{expr_of}
 use Rattle.script.specs.Ordered.{all_below, parts}

@@ -1,10 +1,10 @@
-use Rattle.std.proofs.Common.{◌≡◌, ◌+◌, ◌<◌, ◌≤◌, true, false, length, Some, None, sym, refl, ap, ◌∙◌, ap₂, arith}
+use Rattle.std.proofs.Common.{◌≡◌, ◌+◌, true, false, length, Some, sym, refl, ap, ◌∙◌, ap₂, arith}
 use Rattle.inplace.specs.Held.{held}
 use Rattle.script.specs.Nodes.{code_of}
 use Rattle.script.specs.Ordered.{stmt_ordered}
 use Rattle.script.specs.Pushing.{place_if, pushed}
 use Rattle.script.specs.Meaning.{exprs_of, codes_of, grown_exprs, grown_codes}
-use Rattle.script.proofs.Pushes.{StmtPushed, stmt_pushed, as_many_exprs, as_many_codes, stmts_full, stmt_unfit}
+use Rattle.script.proofs.Pushes.{stmt_pushed, as_many_exprs, as_many_codes, stmts_full, stmt_unfit}
 use Rattle.script.proofs.script.Script.push_stmt.Goals as goal
 
 pub returns-then-at-ge-MOST_STMTS : goal.returns-then-at-ge-MOST_STMTS

@@ -1,4 +1,4 @@
-use Rattle.std.proofs.Common.{◌≡◌, ℕ, ◌-◌, ◌<◌, ◌≤◌, true, length, get_or, IfSome, Some, None, Option, sym, refl, ap, ◌∙◌, arith, MatchOption}
+use Rattle.std.proofs.Common.{◌≡◌, ℕ, ◌-◌, ◌<◌, ◌≤◌, true, length, get_or, IfSome, Some, None, Option, arith, MatchOption}
 use Rattle.inplace.specs.Held.{held}
 use Rattle.rules.specs.Scripts as rules
 use Rattle.script.specs.declared.node.Stmt.{Stmt}

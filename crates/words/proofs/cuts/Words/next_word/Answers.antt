@@ -1,6 +1,6 @@
-use Rattle.std.proofs.Common.{◌≡◌, true, false, eqb, length, Some, sym, refl, ap, ◌∙◌}
-use Rattle.words.specs.Cuts.{before, behind, first_word, after_word}
-use Rattle.words.proofs.FirstWord.{Left, none_left, space_passed, word_found, word_behind, nothing_left}
+use Rattle.std.proofs.Common.{◌≡◌, true, false, eqb, length, Some, sym, ap, ◌∙◌}
+use Rattle.words.specs.Cuts.{before, first_word, after_word}
+use Rattle.words.proofs.FirstWord.{none_left, space_passed, word_found, word_behind, nothing_left}
 use Rattle.words.proofs.cuts.Words.next_word.Goals as goal
 
 pub loop-init : goal.loop-init
