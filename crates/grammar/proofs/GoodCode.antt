@@ -1,6 +1,6 @@
 -- What is kept when a statement is put in front of the rest of its block.
 use Rattle.std.proofs.Common.{◌≡◌, ℕ, suc, ◌<◌, ◌≤◌, Bool, true, false, not, ◌&&◌, ◌||◌, eqb, ltb, List, [], ◌∷◌, ◌++◌, length, sym, refl, ap, ◌∙◌, arith}
-use Rattle.std.specs.List.{AllByRecursion as All}
+use Rattle.std.specs.List.{AllByRecursion}
 use Rattle.std.proofs.ByRecursion.{All-weaker, All-append}
 use Rattle.std.proofs.lemmas.Bool.{and_from, lt-ltb, or_from, or_left, or_right, eq-eqb, ne_eqb, true≢false}
 use Rattle.rules.specs.Plans.{Plan}
@@ -22,21 +22,21 @@ pub record Good (plan : Plan) (depth : ℕ) (barred : ℕ → Bool) (from to : �
   pub still : steady code ≡ true
   pub unwritten : (t : ℕ) → barred t ≡ true → writes t code ≡ false
   pub rising : Rising (places code)
-  pub low : All (λ p. from ≤ p) (places code)
-  pub high : All (λ p. p ≤ to) (places code)
+  pub low : AllByRecursion (λ p. from ≤ p) (places code)
+  pub high : AllByRecursion (λ p. p ≤ to) (places code)
 
 -- A lot that a statement names.
 pub record LotGood (plan : Plan) (depth t : ℕ) (i : Index) : Type 0 where
   pub names : index_scoped depth i ≡ true
   pub within : lot_inside plan t i ≡ true
 
-all_from : (m n : ℕ) (ps : List ℕ) → m ≤ n → All (λ p. n ≤ p) ps → All (λ p. m ≤ p) ps
+all_from : (m n : ℕ) (ps : List ℕ) → m ≤ n → AllByRecursion (λ p. n ≤ p) ps → AllByRecursion (λ p. m ≤ p) ps
 all_from m n ps h a = All-weaker (λ p. n ≤ p) (λ p. m ≤ p) (λ p q. omega arith) ps a
 
-all_to : (m n : ℕ) (ps : List ℕ) → m ≤ n → All (λ p. p ≤ m) ps → All (λ p. p ≤ n) ps
+all_to : (m n : ℕ) (ps : List ℕ) → m ≤ n → AllByRecursion (λ p. p ≤ m) ps → AllByRecursion (λ p. p ≤ n) ps
 all_to m n ps h a = All-weaker (λ p. p ≤ m) (λ p. p ≤ n) (λ p q. omega arith) ps a
 
-rising_append : (m : ℕ) (ps qs : List ℕ) → All (λ p. p ≤ m) ps → All (λ q. m ≤ q) qs → Rising ps → Rising qs → Rising (ps ++ qs)
+rising_append : (m : ℕ) (ps qs : List ℕ) → AllByRecursion (λ p. p ≤ m) ps → AllByRecursion (λ q. m ≤ q) qs → Rising ps → Rising qs → Rising (ps ++ qs)
 rising_append m [] qs a b r s = s
 rising_append m (p ∷ ps) qs a b r s =
     (All-append (λ q. p ≤ q) ps qs r.0 (all_from p m qs a.0 b), rising_append m ps qs a.1 b r.1 s)
@@ -86,10 +86,10 @@ module _ (plan : Plan) (depth : ℕ) (barred : ℕ → Bool) where
     front_rising : Rising (p ∷ places rest)
     front_rising = (all_from p mid (places rest) b g.low, g.rising)
 
-    front_low : All (λ q. from ≤ q) (p ∷ places rest)
+    front_low : AllByRecursion (λ q. from ≤ q) (p ∷ places rest)
     front_low = (a, all_from from mid (places rest) (omega arith) g.low)
 
-    front_high : All (λ q. q ≤ to) (p ∷ places rest)
+    front_high : AllByRecursion (λ q. q ≤ to) (p ∷ places rest)
     front_high = (omega arith, g.high)
 
     -- a table that is written is none of those that may not be
@@ -166,13 +166,13 @@ module _ (plan : Plan) (depth : ℕ) (barred : ℕ → Bool) where
         (All-append (λ q. m ≤ q) (places second) (places rest) s.low (all_from m n (places rest) b g.low))
         f.rising (rising_append n (places second) (places rest) s.high g.low s.rising g.rising)
 
-    three_low : All (λ q. from ≤ q) (places first ++ (places second ++ places rest))
+    three_low : AllByRecursion (λ q. from ≤ q) (places first ++ (places second ++ places rest))
     three_low =
         All-append (λ q. from ≤ q) (places first) (places second ++ places rest) f.low
         (All-append (λ q. from ≤ q) (places second) (places rest) (all_from from m (places second) a s.low)
         (all_from from n (places rest) (omega arith) g.low))
 
-    three_high : All (λ q. q ≤ to) (places first ++ (places second ++ places rest))
+    three_high : AllByRecursion (λ q. q ≤ to) (places first ++ (places second ++ places rest))
     three_high =
         All-append (λ q. q ≤ to) (places first) (places second ++ places rest) (all_to m to (places first) (omega arith) f.high)
         (All-append (λ q. q ≤ to) (places second) (places rest) (all_to n to (places second) c s.high) g.high)

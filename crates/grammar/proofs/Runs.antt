@@ -1,6 +1,6 @@
 -- The longest run at the front of a text: how long it is, what it holds, and where it ends.
 use Rattle.std.proofs.Common.{◌≡◌, ℕ, ◌+◌, ◌-◌, ◌≤◌, Bool, true, false, List, [], ◌∷◌, length, take, drop, refl, ap, one-add, arith, length-drop}
-use Rattle.std.specs.List.{prefix_len, AllByRecursion as All}
+use Rattle.std.specs.List.{prefix_len, AllByRecursion}
 use Rattle.std.proofs.lemmas.List.{length-take-le}
 use Rattle.std.proofs.lemmas.List.Sums.{prefix_len-le-length}
 use Rattle.grammar.specs.Tokens.{run}
@@ -9,11 +9,11 @@ pub length_run : (such : ℕ → Bool) (text : List ℕ) → length (run such te
 length_run such text = length-take-le (prefix_len such text) text (prefix_len-le-length such text)
 
 -- each byte of the run is such a byte
-pub all_run : (such : ℕ → Bool) (text : List ℕ) → All (λ b. such b ≡ true) (run such text)
+pub all_run : (such : ℕ → Bool) (text : List ℕ) → AllByRecursion (λ b. such b ≡ true) (run such text)
 all_run such [] = tt
 all_run such (b ∷ text) = go (such b) refl (all_run such text)
   where
-    go : (t : Bool) → such b ≡ t → All (λ x. such x ≡ true) (run such text) → All (λ x. such x ≡ true) (run such (b ∷ text))
+    go : (t : Bool) → such b ≡ t → AllByRecursion (λ x. such x ≡ true) (run such text) → AllByRecursion (λ x. such x ≡ true) (run such (b ∷ text))
     go true e rest = rw (e, one-add) (e, rest)
     go false e rest = rw e tt
 

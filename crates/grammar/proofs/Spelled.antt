@@ -1,6 +1,6 @@
 -- Keywords and marks are told apart by how they are written.
 use Rattle.std.proofs.Common.{◌≡◌, ℕ, ◌≤◌, Bool, true, false, ◌&&◌, ◌||◌, eqb, leb, List, [], ◌∷◌, length, Some, None, Decides, Option, sym, refl, ap, ◌∙◌}
-use Rattle.std.specs.List.{AllByRecursion as All}
+use Rattle.std.specs.List.{AllByRecursion}
 use Rattle.std.specs.Str.{bytes_eq}
 use Rattle.std.proofs.lemmas.Slice.Eq.{bytes_eq-Decides}
 use Rattle.std.proofs.lemmas.Bool.{and_parts, leb-true, eqb-true}
@@ -55,7 +55,7 @@ abbrev all_letters : List ℕ → Bool
 all_letters [] = true
 all_letters (b ∷ bs) = letter b && all_letters bs
 
-each_letter : (bs : List ℕ) → all_letters bs ≡ true → All Letter bs
+each_letter : (bs : List ℕ) → all_letters bs ≡ true → AllByRecursion Letter bs
 each_letter [] h = tt
 each_letter (b ∷ bs) h = let parts = and_parts (letter b) (all_letters bs) h in (parts.0, each_letter bs parts.1)
 
@@ -79,7 +79,7 @@ spelled Min = refl
 spelled Max = refl
 
 -- keywords are written in letters
-pub letters_are_letters : (k : Keyword) → All Letter (letters k)
+pub letters_are_letters : (k : Keyword) → AllByRecursion Letter (letters k)
 letters_are_letters k = each_letter (letters k) (spelled k)
 
 short : (k : Keyword) → leb (length (letters k)) 8 ≡ true

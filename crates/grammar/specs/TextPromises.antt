@@ -1,6 +1,6 @@
 -- The promises about benches whose scripts come as texts: nothing about the reading is left open.
 use Rattle.std.specs.Prelude.{◌≡◌, ℕ, ◌≤◌, true, List, [], ◌∷◌, Some, Ok, codes}
-use Rattle.std.specs.List.{AllByRecursion as All}
+use Rattle.std.specs.List.{AllByRecursion}
 use Rattle.lattice.specs.Order.{Order, Laws}
 use Rattle.lattice.specs.Built.{compartments, contributors, grades}
 use Rattle.rules.specs.declared.refusal.Refusal.TheVariants.{FlowNotAllowed, WrittenInEach}
@@ -35,7 +35,7 @@ MeterOfTexts = (o : Order) (plan : Plan) → Meter o (admits o plan) plan
 -- After any list of calls every lot is within its length and its columns, and every number in it fits 32 bits.
 abbrev pub LotsKeptUnderTexts : Type 0
 LotsKeptUnderTexts =
-    (o : Order) (plan : Plan) → sound plan ≡ true → (calls : List Call) → All CallWords calls
+    (o : Order) (plan : Plan) → sound plan ≡ true → (calls : List Call) → AllByRecursion CallWords calls
     → (t v : ℕ) → KeptLot plan t v ((after_calls o (admits o plan) plan new_bench calls).lots t v)
 
 -- The place that a refused flow brings is that of the earliest statement in the text with a flow that is not allowed.

@@ -2,7 +2,7 @@
 use Rattle.std.proofs.Common.{◌≡◌, ℕ, ◌+◌, ◌-◌, ◌*◌, ◌^◌, ◌<◌, ◌≤◌, Bool, eqb, List, [], ◌∷◌, ◌++◌, length, take, drop, sym, refl, ap, ◌∙◌, ⊎_elim, pow-suc, add-one, arith, length-drop, take-append-drop}
 use native.Mathlib.Nat.{pow-le-pow_right}
 use Rattle.std.specs.Int.Digits.{number_from_digits, number_from_digits_after}
-use Rattle.std.specs.List.{AllByRecursion as All}
+use Rattle.std.specs.List.{AllByRecursion}
 use Rattle.std.specs.Str.{bytes_eq}
 use Rattle.std.proofs.lemmas.Int.Digits.{number_after_append, number_after_ge}
 use Rattle.std.proofs.ByRecursion.{All-take, All-drop}
@@ -28,7 +28,7 @@ letter_range : (b : ℕ) → Letter b → (0 < b) × (b < 256)
 letter_range b h = grind (arith, nat_tests)
 
 -- of words of one length
-same_words : (m n : ℕ) (xs ys : List ℕ) → length xs ≡ length ys → All Letter xs → All Letter ys → number_from_digits_after 256 m xs ≡ number_from_digits_after 256 n ys
+same_words : (m n : ℕ) (xs ys : List ℕ) → length xs ≡ length ys → AllByRecursion Letter xs → AllByRecursion Letter ys → number_from_digits_after 256 m xs ≡ number_from_digits_after 256 n ys
     → (m ≡ n) × (xs ≡ ys)
 same_words m n [] [] l p q e = (e, refl)
 same_words m n [] (y ∷ ys) l p q e = absurd (omega arith)
@@ -43,11 +43,11 @@ same_words m n (x ∷ xs) (y ∷ ys) l p q e =
     (front, cc)
 
 -- what packs to 0 has no letter
-none_packed : (xs : List ℕ) → All Letter xs → 0 ≡ number_from_digits 256 xs → xs ≡ []
+none_packed : (xs : List ℕ) → AllByRecursion Letter xs → 0 ≡ number_from_digits 256 xs → xs ≡ []
 none_packed [] p e = refl
 none_packed (x ∷ xs) p e = let more = number_after_ge 256 (0 * 256 + x) xs (omega arith) in absurd (omega (arith, letter_range x p.0))
 
-shorter : (xs ys : List ℕ) → length xs ≤ length ys → All Letter xs → All Letter ys → packed xs ≡ packed ys → xs ≡ ys
+shorter : (xs ys : List ℕ) → length xs ≤ length ys → AllByRecursion Letter xs → AllByRecursion Letter ys → packed xs ≡ packed ys → xs ≡ ys
 shorter xs ys l p q e =
     let n : ℕ = length ys - length xs in
     let split = take-append-drop n ys in
@@ -57,12 +57,12 @@ shorter xs ys l p q e =
     let none = none_packed (take n ys) (All-take Letter n ys q) parts.0 in
     parts.1 ∙ sym (ap (λ front. front ++ drop n ys) none) ∙ split
 
-pub packed_injective : (xs ys : List ℕ) → All Letter xs → All Letter ys → packed xs ≡ packed ys → xs ≡ ys
+pub packed_injective : (xs ys : List ℕ) → AllByRecursion Letter xs → AllByRecursion Letter ys → packed xs ≡ packed ys → xs ≡ ys
 packed_injective xs ys p q e =
     ⊎_elim (λ h. shorter xs ys (omega arith) p q e) (λ h. sym (shorter ys xs h q p (sym e))) (cases_lt (length xs) (length ys))
 
 -- a word has a keyword's code exactly when it is that keyword
-code_tells : (word : List ℕ) → All Letter word → (k : Keyword) → eqb (packed word) (packed (letters k)) ≡ bytes_eq word (letters k)
+code_tells : (word : List ℕ) → AllByRecursion Letter word → (k : Keyword) → eqb (packed word) (packed (letters k)) ≡ bytes_eq word (letters k)
 code_tells word p k =
     same_from_decides (eqb (packed word) (packed (letters k))) (bytes_eq word (letters k))
     (Decides-like (eqb (packed word) (packed (letters k))) (packed_injective word (letters k) p (letters_are_letters k)) (ap packed) (Decides-eqb (packed word) (packed (letters k))))
@@ -72,6 +72,6 @@ first_alike : {X : Type 0} (p q : X → Bool) → ((x : X) → p x ≡ q x) → 
 first_alike p q same [] = refl
 first_alike p q same (x ∷ xs) = (λ i. this_or (same x i) x (first_alike p q same xs i))
 
-pub with_code_is_keyword : (word : List ℕ) → All Letter word → keyword_with (packed word) ≡ keyword_of word
+pub with_code_is_keyword : (word : List ℕ) → AllByRecursion Letter word → keyword_with (packed word) ≡ keyword_of word
 unfolding keyword_of
 with_code_is_keyword word p = first_alike (λ k. eqb (packed word) (packed (letters k))) (λ k. bytes_eq word (letters k)) (code_tells word p) keywords

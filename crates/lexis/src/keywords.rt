@@ -1,5 +1,5 @@
 ghost use Rattle.std.specs.Prelude.{◌≡◌, ◌≤◌, length};
-ghost use Rattle.std.specs.List.{AllByRecursion as All};
+ghost use Rattle.std.specs.List.{AllByRecursion};
 ghost use Rattle.grammar.specs.Spelling.{keyword_of};
 ghost use Rattle.grammar.specs.Tokens.{Letter};
 ghost use Rattle.lexis.specs.Codes.{packed, keyword_with};
@@ -65,7 +65,7 @@ fn pack(word: &[u8]) -> u64
 // The keyword that is written so, if there is one.
 pub(crate) fn keyword_of(word: &[u8]) -> Option<Keyword>
     requires short { length word.now ≤ 8 }
-    requires letters { All Letter word.now }
+    requires letters { AllByRecursion Letter word.now }
     ensures { result ≡ keyword_of word.now }
 {
     with_code(pack(word))

@@ -1,6 +1,6 @@
 ghost use Rattle.std.specs.Prelude.{◌≡◌};
 ghost use Rattle.std.specs.Str.Parse.{digits_value};
-ghost use Rattle.std.specs.List.{AllByRecursion as All};
+ghost use Rattle.std.specs.List.{AllByRecursion};
 ghost use Rattle.grammar.specs.Tokens.{Digit, leading_zero};
 ghost use Rattle.lexis.specs.Values.{fitting};
 
@@ -13,7 +13,7 @@ pub(crate) fn has_leading_zero(digits: &[u8]) -> bool
 
 // The number that the digits write, where it fits 32 bits.
 pub(crate) fn value_of(digits: &[u8]) -> Option<u32>
-    requires { All Digit digits.now }
+    requires { AllByRecursion Digit digits.now }
     ensures { result ≡ fitting (digits_value 10 digits.now) }
 {
     let mut sum: u64 = 0;

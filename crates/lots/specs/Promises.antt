@@ -1,6 +1,6 @@
 -- What is promised of the lots, each statement as a type. Its proof stands on the contract of a function.
 use Rattle.std.specs.Prelude.{◌≡◌, ℕ, ◌<◌, true, List, length}
-use Rattle.std.specs.List.{AllByRecursion as All}
+use Rattle.std.specs.List.{AllByRecursion}
 use Rattle.rules.specs.Plans.{Plan, sound}
 use Rattle.rules.specs.Lots.{Lot, Lots, InRoom, room, put_lot, enter_row}
 use Rattle.rules.specs.Evaluation.{drop_rows, alter_rows}
@@ -14,7 +14,7 @@ RowsFit = (store : Store) (plan : Plan) → pairs_of store ≡ plan_pairs plan �
 
 -- Every row of a lot has so many cells.
 abbrev pub Wide : ℕ → Lot → Type 0
-Wide width lot = All (λ row. length row ≡ width) lot.rows
+Wide width lot = AllByRecursion (λ row. length row ≡ width) lot.rows
 
 -- What may be done to a lot of such rows: a row of that width enters, rows are dropped, rows are altered.
 pub record WidthStays (width : ℕ) (lot : Lot) : Type 0 where

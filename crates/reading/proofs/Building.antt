@@ -15,7 +15,7 @@ use Rattle.reading.specs.declared.statements.Stated.{Stated}
 use Rattle.reading.specs.Terms.{Kept}
 use Rattle.reading.specs.Stated.{before_of, Flat}
 use Rattle.reading.specs.Blocks.{resting, KeptBlocks, Ready, Larger, Told}
-use Rattle.reading.proofs.Grows.{stay_self, stay_twice}
+use Rattle.reading.proofs.Grows.{stay_self, stay_twice, kept_self, kept_twice}
 use Rattle.reading.proofs.ManyValues.{kept_values}
 
 pub blocks_same : (cs ds : List rules.Code) → ds ≡ cs → KeptBlocks cs ds
@@ -26,7 +26,7 @@ pub larger_twice : (es fs gs : List rules.Expr) (bs cs ds : List rules.Code) (wa
 larger_twice es fs gs bs cs ds was mid now a b = record {
   nodes = omega (arith, a.nodes, b.nodes);
   few = b.few;
-  exprs = stay_twice (rules.Expr.literal 0) es fs gs a.exprs b.exprs;
+  exprs = kept_twice es fs gs a.exprs b.exprs;
   stays = stay_twice rules.Code.stop bs cs ds a.stays b.stays;
   begun = omega (arith, a.begun, b.begun);
   limit = b.limit;
@@ -57,7 +57,7 @@ larger_exprs es is cs ds was now n f k e b l = record {
 
 -- Nothing was pushed.
 pub larger_self : (es : List rules.Expr) (cs : List rules.Code) (counts : Counts) → Ready es cs counts → Larger es es cs cs counts counts
-larger_self es cs counts r = larger_exprs es es cs cs counts counts (omega arith) r.few (stay_self (rules.Expr.literal 0) es) refl refl r.limit
+larger_self es cs counts r = larger_exprs es es cs cs counts counts (omega arith) r.few (kept_self es) refl refl r.limit
 
 pub flat_told : (es is : List rules.Expr) (cs ds : List rules.Code) (counts : Counts) (r : Result Stated Refusal)
     → Ready es cs counts → Flat es is cs counts r → ds ≡ cs → Told es is cs ds counts r

@@ -14,7 +14,7 @@ use Rattle.script.specs.Nodes.{expr_at}
 use Rattle.script.specs.Ordered.{all_below}
 use Rattle.reading.specs.Terms.{Kept}
 use Rattle.reading.specs.Added.{Added}
-use Rattle.reading.proofs.Grows.{stay_twice}
+use Rattle.reading.proofs.Grows.{kept_twice}
 
 -- The last of them, and one with more to come.
 pub values_last : (text : List ℕ) (plan : Plan) (scope : Scope) (more : ℕ) (es : List rules.Expr) (place atoms : ℕ) → more ≡ 0
@@ -134,6 +134,6 @@ added_more was mid is ats atoms counted (Ok m) k n a = record {
   inside = a.inside;
   nodes = omega (arith, n, a.nodes);
   few = a.few;
-  kept = stay_twice (rules.Expr.literal 0) was mid is k a.kept;
+  kept = kept_twice was mid is k a.kept;
 }
 added_more was mid is ats atoms counted (Err why) k n a = tt

@@ -11,12 +11,14 @@ termed es after (Ok t) = Ok (record { value = expr_at es t.at; after = after; at
 termed es after (Err why) = Err why
 
 -- What stood at a place still stands there.
+pub record Kept (was is : List rules.Expr) : Type 0 where
+  pub longer : length was ≤ length is
+  pub same : (k : ℕ) → k < length was → expr_at is k ≡ expr_at was k
+
+-- The same of any list, with what is read where nothing stands.
 pub record Stay {A : Type 0} (none : A) (was is : List A) : Type 0 where
   pub longer : length was ≤ length is
   pub same : (k : ℕ) → k < length was → slice_index_or is k none ≡ slice_index_or was k none
-
-abbrev pub Kept : List rules.Expr → List rules.Expr → Type 0
-Kept was is = Stay (rules.Expr.literal 0) was is
 
 -- An expression takes one node less than twice its atoms.
 pub record GrownTo (was is : List rules.Expr) (atoms : ℕ) (t : Term) : Type 0 where

@@ -1,6 +1,6 @@
 -- A call over plain values: its checks and what it does, what an admission gives, and what every bench keeps.
 use Rattle.std.proofs.Common.{◌≡◌, ℕ, ◌≤◌, Bool, true, false, cond, eqb, List, [], ◌∷◌, length, is_some, Some, None, Ok, Err, Option, Result, refl, arith}
-use Rattle.std.specs.List.{AllByRecursion as All}
+use Rattle.std.specs.List.{AllByRecursion}
 use Rattle.std.proofs.lemmas.Bool.{both_ways, ltb-false, leb-false}
 use Rattle.rules.specs.declared.refusal.Refusal.{Refusal}
 use Rattle.lattice.specs.Order.{Order}
@@ -19,7 +19,7 @@ use Rattle.rules.proofs.StepBound.{Within, within_figure, put_in_room}
 
 -- what holds of every refusal, and of the rest where no check holds, holds of the whole
 pub sifted : {A : Type 0} (P : Result A Refusal → Type 0) (cs : List Check) (rest : Result A Refusal)
-    → ((why : Refusal) → P (Err why)) → (All (λ c. c.holds ≡ false) cs → P rest) → P (sift cs rest)
+    → ((why : Refusal) → P (Err why)) → (AllByRecursion (λ c. c.holds ≡ false) cs → P rest) → P (sift cs rest)
 sifted {A} P [] rest refused passed = passed tt
 sifted {A} P (c ∷ cs) rest refused passed = go c.holds refl (λ e. sifted P cs rest refused (λ all. passed (e, all)))
   where
@@ -29,7 +29,7 @@ sifted {A} P (c ∷ cs) rest refused passed = go c.holds refl (λ e. sifted P cs
 
 -- a call that is not sent back passed its checks, and did what it does
 pub record Passed {A : Type 0} (cs : List Check) (rest : Result A Refusal) (x : A) : Type 0 where
-  pub all : All (λ c. c.holds ≡ false) cs
+  pub all : AllByRecursion (λ c. c.holds ≡ false) cs
   pub is : rest ≡ Ok x
 
 pub passed : {A : Type 0} (cs : List Check) (rest : Result A Refusal) (x : A) → sift cs rest ≡ Ok x → Passed cs rest x
@@ -111,7 +111,7 @@ module _ (o : Order) (read : Reading) (plan : Plan) where
   unfolding outcome
   orderly_step bench call h = sifted (λ r. Orderly o plan (bench_of bench r)) (checks o plan bench call) (effect (admission o read plan) plan bench call) (λ why. h) (go call)
     where
-      go : (c : Call) → All (λ k. k.holds ≡ false) (checks o plan bench c) → Orderly o plan (bench_of bench (effect (admission o read plan) plan bench c))
+      go : (c : Call) → AllByRecursion (λ k. k.holds ≡ false) (checks o plan bench c) → Orderly o plan (bench_of bench (effect (admission o read plan) plan bench c))
       go (post t v values) p = record {
         rooms = put_in_room plan bench.lots t v _ h.rooms (omega (arith, leb-false (room plan t v) (length (bench.lots t v).rows) p.1.1.1.0));
         scripts = h.scripts;

@@ -1,6 +1,6 @@
 -- Two benches: lists of calls that agree at a label are answered alike to those who hear there.
 use Rattle.std.proofs.Common.{◌≡◌, ℕ, zero, suc, ◌<◌, ◌≤◌, Bool, true, false, cond, not, eqb, leb, ◌⊎◌, List, [], ◌∷◌, length, get_or, is_some, Some, None, Ok, Err, Option, Result, sym, refl, ap, ◌∙◌, subst, inl, inr, arith}
-use Rattle.std.specs.List.{AllByRecursion as All}
+use Rattle.std.specs.List.{AllByRecursion}
 use Rattle.std.proofs.lemmas.List.{get_or_past}
 use Rattle.std.proofs.lemmas.Bool.{both_ways, cases_lt, and_from, lt-ltb, leb-false, eqb-true, not-false}
 use Rattle.rules.specs.declared.refusal.Refusal.{Refusal}
@@ -33,7 +33,7 @@ SameChecks (c ∷ cs) [] = ⊥
 SameChecks (c ∷ cs) (d ∷ ds) = (c.why ≡ d.why) × (c.holds ≡ d.holds) × (c.holds ≡ false → SameChecks cs ds)
 
 sift_both : {A : Type 0} (R : Result A Refusal → Result A Refusal → Type 0) (cs ds : List Check) (r q : Result A Refusal) → SameChecks cs ds
-    → ((w : Refusal) → R (Err w) (Err w)) → (All (λ c. c.holds ≡ false) cs → R r q) → R (sift cs r) (sift ds q)
+    → ((w : Refusal) → R (Err w) (Err w)) → (AllByRecursion (λ c. c.holds ≡ false) cs → R r q) → R (sift cs r) (sift ds q)
 sift_both R [] [] r q e refused k = k tt
 sift_both R [] (d ∷ ds) r q e refused k = absurd e
 sift_both R (c ∷ cs) [] r q e refused k = absurd e

@@ -1,6 +1,6 @@
 -- The judge is exact: it finds no fault exactly where every flow is allowed, and the fault that it finds is one.
 use Rattle.std.proofs.Common.{◌≡◌, ℕ, zero, suc, ◌<◌, ◌≤◌, min, Bool, true, false, cond, eqb, ◌⊎◌, List, [], ◌∷◌, ◌++◌, Some, None, Option, sym, refl, ap, ◌∙◌, inl, inr, arith}
-use Rattle.std.specs.List.{AllByRecursion as All}
+use Rattle.std.specs.List.{AllByRecursion}
 use Rattle.std.proofs.lemmas.Bool.{both_ways, cond_both, cases_Bool, cases_eq}
 use Rattle.lattice.specs.Order.{Order}
 use Rattle.rules.specs.Plans.{Plan}
@@ -129,13 +129,13 @@ over_least f (suc n) q v l h =
 record Parts (xs ys : List ℕ) : Type 0 where
   front : Rising xs
   back : Rising ys
-  across : All (λ x. All (λ y. x ≤ y) ys) xs
+  across : AllByRecursion (λ x. AllByRecursion (λ y. x ≤ y) ys) xs
 
-all_left : (P : ℕ → Type 0) (xs ys : List ℕ) → All P (xs ++ ys) → All P xs
+all_left : (P : ℕ → Type 0) (xs ys : List ℕ) → AllByRecursion P (xs ++ ys) → AllByRecursion P xs
 all_left P [] ys h = tt
 all_left P (x ∷ xs) ys h = (h.0, all_left P xs ys h.1)
 
-all_right : (P : ℕ → Type 0) (xs ys : List ℕ) → All P (xs ++ ys) → All P ys
+all_right : (P : ℕ → Type 0) (xs ys : List ℕ) → AllByRecursion P (xs ++ ys) → AllByRecursion P ys
 all_right P [] ys h = h
 all_right P (x ∷ xs) ys h = all_right P xs ys h.1
 
@@ -230,7 +230,7 @@ module _ (o : Order) (plan : Plan) where
       either (earlier_fault _ _ p e) (λ h. inl (flow_fault place p _ h)) (λ h. inr (faulty p rest scope val context h))
 
   -- a fault stands at one of the places
-  placed : (P : ℕ → Type 0) (p : ℕ) (code : Code) (scope : Scope) (val : Valuation) (context : ℕ) → All P (places code) → Fault o plan p code scope val context → P p
+  placed : (P : ℕ → Type 0) (p : ℕ) (code : Code) (scope : Scope) (val : Valuation) (context : ℕ) → AllByRecursion P (places code) → Fault o plan p code scope val context → P p
   unfolding Fault places
   placed P p stop scope val context h e = absurd e
   placed P p (var mark rest) scope val context h e = placed P p rest (enter scope (held (mark_at val mark))) val context h e
@@ -261,10 +261,10 @@ module _ (o : Order) (plan : Plan) where
 
   -- a fault of a block is not past one that stands behind the block
   before : (first : Code) (scope : Scope) (val : Valuation) (context : ℕ) (behind : List ℕ) (q : ℕ)
-      → All (λ x. All (λ y. x ≤ y) behind) (places first) → ((P : ℕ → Type 0) → All P behind → P q)
+      → AllByRecursion (λ x. AllByRecursion (λ y. x ≤ y) behind) (places first) → ((P : ℕ → Type 0) → AllByRecursion P behind → P q)
       → (p : ℕ) → verdict o plan first scope val context ≡ Some p → p ≤ q
   before first scope val context behind q h f p e =
-      f (λ y. p ≤ y) (placed (λ x. All (λ y. x ≤ y) behind) p first scope val context h (faulty p first scope val context e))
+      f (λ y. p ≤ y) (placed (λ x. AllByRecursion (λ y. x ≤ y) behind) p first scope val context h (faulty p first scope val context e))
 
   at_flow : (place q : ℕ) (b : Bool) (later : Option ℕ) → (b ≡ false) × (place ≡ q) → Found (earlier (flow place b) later) q
   at_flow place q b later h = record { place = place; is = rw h.0 refl; before = omega (arith, h.1) }

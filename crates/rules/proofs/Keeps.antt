@@ -1,6 +1,6 @@
 -- Every lot is kept: by a block, by a call, after any list of calls.
 use Rattle.std.proofs.Common.{◌≡◌, ℕ, zero, suc, ◌<◌, ◌≤◌, Bool, true, false, cond, ◌&&◌, eqb, ltb, leb, List, [], ◌∷◌, map, length, get_or, set as set_at, Some, None, Ok, Err, Option, Result, refl, ◌∙◌, arith}
-use Rattle.std.specs.List.{AllByRecursion as All}
+use Rattle.std.specs.List.{AllByRecursion}
 use Rattle.std.proofs.ByRecursion.{all_kept_by, All-map, All-weaker, All-set}
 use Rattle.std.proofs.lemmas.List.{length-map, length-set}
 use Rattle.std.proofs.lemmas.Bool.{cond_both, and_parts, leb-true, leb-false, eqb-true, ltb-true, not-false}
@@ -140,7 +140,7 @@ module _ (plan : Plan) where
   counted_kept n st h = record { vars = h.vars; lots = h.lots }
 
   walk_kept : (f : List ℕ → State → State) → ((row : List ℕ) → Words row → (st : State) → KeptState st → KeptState (f row st))
-      → (rows : List (List ℕ)) → All Words rows → (st : State) → KeptState st → KeptState (walk f rows st)
+      → (rows : List (List ℕ)) → AllByRecursion Words rows → (st : State) → KeptState st → KeptState (walk f rows st)
   walk_kept f is [] w st h = h
   walk_kept f is (row ∷ rows) w st h = walk_kept f is rows w.1 (f row st) (is row w.0 st h)
 
@@ -223,7 +223,7 @@ module _ (plan : Plan) where
     kept_step bench call words h =
         sifted (λ r. KeptBench (bench_of bench r)) (checks o plan bench call) (effect (admission o read plan) plan bench call) (λ why. h) (go call words)
       where
-        go : (c : Call) → CallWords c → All (λ k. k.holds ≡ false) (checks o plan bench c) → KeptBench (bench_of bench (effect (admission o read plan) plan bench c))
+        go : (c : Call) → CallWords c → AllByRecursion (λ k. k.holds ≡ false) (checks o plan bench c) → KeptBench (bench_of bench (effect (admission o read plan) plan bench c))
         go (post t v values) w p = record {
           lots = put_kept bench.lots t v _ h.lots (record {
             count = omega (arith, leb-false (room plan t v) (length (bench.lots t v).rows) p.1.1.1.0);
@@ -250,7 +250,7 @@ module _ (plan : Plan) where
         go (count clearance t v) w p = h
         go (meter clearance) w p = h
 
-    kept_after : (calls : List Call) → All CallWords calls → (bench : Bench) → KeptBench bench → KeptBench (after_calls o (admission o read plan) plan bench calls)
+    kept_after : (calls : List Call) → AllByRecursion CallWords calls → (bench : Bench) → KeptBench bench → KeptBench (after_calls o (admission o read plan) plan bench calls)
     kept_after [] w bench h = h
     kept_after (c ∷ cs) w bench h = kept_after cs w.1 (step o (admission o read plan) plan bench c) (kept_step bench c w.0 h)
 

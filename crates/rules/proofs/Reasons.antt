@@ -1,6 +1,6 @@
 -- Why a call is sent back: its checks decide its conditions, and the first that holds is its answer.
 use Rattle.std.proofs.Common.{◌≡◌, ℕ, ◌<◌, ◌≤◌, Bool, true, false, not, ltb, leb, ◌⊎◌, List, [], ◌∷◌, length, is_some, Some, None, Ok, Err, Decides, Option, Result, sym, refl, ap, ◌∙◌, inl, inr, arith}
-use Rattle.std.specs.List.{AllByRecursion as All}
+use Rattle.std.specs.List.{AllByRecursion}
 use Rattle.std.proofs.lemmas.Bool.{leb-true, le-leb, not-true, not_from_false, false≢true, true≢false}
 use Rattle.std.proofs.lemmas.Bool.Decides.{Decides-eqb, Decides-not, Decides-ltb, not_from_Decides}
 use Rattle.rules.specs.declared.refusal.Refusal.{Refusal}
@@ -26,7 +26,7 @@ First (c ∷ cs) why = ((c.holds ≡ true) × (c.why ≡ why)) ⊎ ((c.holds ≡
 
 -- None of the checks holds.
 abbrev pub Clear : List Check → Type 0
-Clear cs = All (λ c. c.holds ≡ false) cs
+Clear cs = AllByRecursion (λ c. c.holds ≡ false) cs
 
 -- a chain of checks gives this error: one of them is the first that holds, or none does and the rest gives it
 pub sift_why : {A : Type 0} (cs : List Check) (rest : Result A Refusal) (why : Refusal) → sift cs rest ≡ Err why → First cs why ⊎ (Clear cs × (rest ≡ Err why))

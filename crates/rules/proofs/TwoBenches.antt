@@ -1,6 +1,6 @@
 -- The promise over whole lists: first without the unseen posts, then call by call.
 use Rattle.std.proofs.Common.{◌≡◌, ℕ, Bool, true, false, cond, not, List, [], ◌∷◌, sym, refl, ap, ◌∙◌}
-use Rattle.std.specs.List.{AllZip, AllByRecursion as All}
+use Rattle.std.specs.List.{AllZip, AllByRecursion}
 use Rattle.std.proofs.ByRecursion.{kept_by_passes, All-weaker}
 use Rattle.std.proofs.lemmas.Bool.{both_ways, and_parts, not-true, not_from_true, true≢false, false≢true}
 use Rattle.rules.specs.declared.answer.Answer.{Answer}
@@ -73,7 +73,7 @@ module _ (o : Order) (laws : Laws o) (read : Reading) (plan : Plan) (s : ℕ) wh
 
   -- lists that are alike call by call
   side_by_side : (left right : List Call) (a b : Bench) → Orderly o plan a → Orderly o plan b → Mates o laws read plan s a b
-      → All (λ c. unseen o plan s c ≡ false) left → AllZip (Alike o plan s) left right
+      → AllByRecursion (λ c. unseen o plan s c ≡ false) left → AllZip (Alike o plan s) left right
       → heard o (admits o laws read plan s) plan s a left ≡ heard o (admits o laws read plan s) plan s b right
   side_by_side [] [] a b fine well h kept alike = refl
   side_by_side [] (d ∷ ds) a b fine well h kept alike = absurd alike

@@ -1,6 +1,6 @@
 -- The judge: where a script breaks a flow rule first.
 use Rattle.std.specs.Prelude.{◌≡◌, ℕ, zero, suc, ◌<◌, ◌≤◌, min, Bool, true, false, cond, ◌⊎◌, List, [], ◌∷◌, ◌++◌, Some, None, Option, ◌==◌}
-use Rattle.std.specs.List.{AllByRecursion as All}
+use Rattle.std.specs.List.{AllByRecursion}
 use Rattle.lattice.specs.Order.{Order}
 use Rattle.rules.specs.Plans.{Plan}
 use Rattle.rules.specs.Scripts.{Code}
@@ -108,4 +108,4 @@ places (alter place t i column value condition rest) = place ∷ places rest
 
 abbrev pub Rising : List ℕ → Type 0
 Rising [] = Unit {0}
-Rising (p ∷ ps) = All (λ q. p ≤ q) ps × Rising ps
+Rising (p ∷ ps) = AllByRecursion (λ q. p ≤ q) ps × Rising ps

@@ -1,6 +1,6 @@
 -- What every lot keeps, and what it asks of the scripts that are read and of the values that are posted.
 use Rattle.std.specs.Prelude.{◌≡◌, ℕ, ◌≤◌, Bool, true, ◌&&◌, List, [], ◌∷◌, length, Ok, ◌==◌, nat_le}
-use Rattle.std.specs.List.{AllByRecursion as All}
+use Rattle.std.specs.List.{AllByRecursion}
 use Rattle.rules.specs.Plans.{Plan}
 use Rattle.rules.specs.Scripts.{Expr, Code}
 use Rattle.rules.specs.Scripts.Expr.{literal, mine, of_index, variable, cell, apply}
@@ -12,13 +12,13 @@ use Rattle.rules.specs.Calls.Call.{post, admit, run, look, count, meter}
 
 -- A list of numbers of 32 bits.
 abbrev pub Words : List ℕ → Type 0
-Words xs = All (λ x. x ≤ last_word) xs
+Words xs = AllByRecursion (λ x. x ≤ last_word) xs
 
 -- A lot has at most its length of rows, each as wide as its table; every cell and the lost count fit 32 bits.
 pub record KeptLot (plan : Plan) (t v : ℕ) (lot : Lot) : Type 0 where
   pub count : length lot.rows ≤ room plan t v
-  pub wide : All (λ row. length row ≡ width plan t) lot.rows
-  pub words : All Words lot.rows
+  pub wide : AllByRecursion (λ row. length row ≡ width plan t) lot.rows
+  pub words : AllByRecursion Words lot.rows
   pub lost : lot.lost ≤ last_word
 
 -- The numbers in an expression fit 32 bits.

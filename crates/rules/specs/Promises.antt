@@ -1,6 +1,6 @@
 -- What is promised of these rules, each statement as a type. Its proof stands on the contract of a function.
 use Rattle.std.specs.Prelude.{◌≡◌, ℕ, ◌≤◌, true, false, List, ◌∷◌, ◌++◌, Some, None, ◌≢◌}
-use Rattle.std.specs.List.{AllByRecursion as All}
+use Rattle.std.specs.List.{AllByRecursion}
 use Rattle.rules.specs.declared.refusal.Refusal.{Refusal}
 use Rattle.rules.specs.declared.answer.Answer.TheVariants.{Figure, Refused}
 use Rattle.lattice.specs.Order.{Order, Laws}
@@ -96,4 +96,4 @@ Why =
 abbrev pub Kept : Type 0
 Kept =
     (o : Order) (read : Reading) (plan : Plan) → sound plan ≡ true → Fitting plan read
-    → (calls : List Call) → All CallWords calls → (t v : ℕ) → KeptLot plan t v ((after_calls o (admission o read plan) plan new_bench calls).lots t v)
+    → (calls : List Call) → AllByRecursion CallWords calls → (t v : ℕ) → KeptLot plan t v ((after_calls o (admission o read plan) plan new_bench calls).lots t v)

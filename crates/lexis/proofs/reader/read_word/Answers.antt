@@ -1,5 +1,5 @@
 use Rattle.std.proofs.Common.{◌≡◌, ◌-◌, take, drop, Ok, sym, ap, ◌∙◌, subst, arith}
-use Rattle.std.specs.List.{AllByRecursion as All}
+use Rattle.std.specs.List.{AllByRecursion}
 use Rattle.grammar.specs.Tokens.{Token, letter, Letter, run, word, read_word}
 use Rattle.grammar.proofs.FirstBytes.{read_short}
 use Rattle.grammar.proofs.Runs.{run_within, part_is_run, all_run}
@@ -14,7 +14,7 @@ pub keyword_of-requires : goal.keyword_of-requires
 keyword_of-requires c = record {
   short = c.if-letters-gt-NAME_LENGTH.false;
   letters =
-      subst (All Letter) (sym (part_is_run letter c.args.text.now c.args.place c.run_end-after.result c.run_end-after.ensures))
+      subst (AllByRecursion Letter) (sym (part_is_run letter c.args.text.now c.args.place c.run_end-after.result c.run_end-after.ensures))
       (all_run letter (drop c.args.place c.args.text.now));
 }
 

@@ -2,7 +2,7 @@ use Rattle.std.proofs.Common.{ap, ◌∙◌}
 use Rattle.rules.specs.Scripts as rules
 use Rattle.script.specs.Nodes.{expr_of, expr_at}
 use Rattle.script.specs.Meaning.{exprs_of}
-use Rattle.reading.proofs.Grows.{at_is, pushed_is, more_length, newest, stay_push}
+use Rattle.reading.proofs.Grows.{at_is, pushed_is, more_length, newest, kept_push}
 use Rattle.reading.proofs.expressions.push.Goals as goal
 
 pub returns-in-Some : goal.returns-in-Some
@@ -16,6 +16,6 @@ returns-in-Some c =
       value = here;
       here = ap (expr_at is) here ∙ newest (rules.Expr.literal 0) es is x e;
       size = more_length es is x e;
-      kept = stay_push (rules.Expr.literal 0) es is x e;
+      kept = kept_push es is x e;
       codes = c.in-Some.ensures.codes;
     }
