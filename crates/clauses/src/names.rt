@@ -1,7 +1,7 @@
 // The names in scope, held in place.
 ghost use Rattle.std.specs.Prelude.{◌≡◌, ◌<◌, [], length, Ok};
 ghost use Rattle.std.specs.Option.{option_map};
-ghost use Rattle.grammar.specs.Scopes.{look_up, may_make, make, use_name, most_names};
+ghost use Rattle.grammar.specs.Scopes.{look_up, may_make, use_name, most_names};
 ghost use Rattle.grammar.specs.Clauses.{walks, walked};
 ghost use Rattle.clauses.specs.Names.{bound_of, bound_result, scope_of, with_name, asks};
 
@@ -90,16 +90,8 @@ impl<'a> Names<'a> {
         }
     }
 
-    // One name more, for which there is room.
-    pub fn with(&self, letters: &'a [u8], kind: NameKind) -> Names<'a>
-        requires { length (scope_of self.now) < most_names }
-        ensures { scope_of result ≡ make letters.now kind (scope_of self.now) }
-    {
-        self.with_if_room(letters, kind)
-    }
-
     // One name more; the same names where there is no room for it.
-    pub fn with_if_room(&self, letters: &'a [u8], kind: NameKind) -> Names<'a>
+    pub fn with(&self, letters: &'a [u8], kind: NameKind) -> Names<'a>
         ensures { scope_of result ≡ with_name letters.now kind (scope_of self.now) }
     {
         let mut list = self.list;

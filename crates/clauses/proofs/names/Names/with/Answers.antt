@@ -1,6 +1,5 @@
-use Rattle.std.proofs.Common.{sym, ◌∙◌}
-use Rattle.std.proofs.lemmas.Bool.{cond_below}
+use Rattle.clauses.proofs.Scoped.{with_one}
 use Rattle.clauses.proofs.names.Names.with.Goals as goal
 
 pub returns : goal.returns
-returns c = c.with_if_room.ensures ∙ sym (cond_below _ _ _ _ c.requires)
+returns c = with_one _ _ _ _ c.push.ensures.value c.push.ensures.after
