@@ -1,4 +1,4 @@
-use Rattle.std.proofs.Common.{◌≤◌, [], map, length, get_or, sym, ap, ◌∙◌, arith}
+use Rattle.std.proofs.Common.{◌≤◌, [], map, length, get_or, sym, ap, ◌∙◌, arith, rules}
 use lib.ListN.{length-map}
 use Rattle.std.proofs.lemmas.List.{get_or_past, get_or-map}
 use Rattle.rules.specs.Plans.{Table}
@@ -17,7 +17,7 @@ returns-then-table-tables c =
 
 pub returns : goal.returns
 returns c =
-    ap length c.columns.ensures
-    ∙ ap (λ x. length (table_of x).columns) c.index-tables-table.is
-    ∙ sym (ap (λ (x : Table). length x.columns) (get_or-map table_of c.tables-tables.result.now c.args.table c.index-tables-table.result none c.if-table-tables.false))
-    ∙ ap (λ xs. length (get_or xs c.args.table none).columns) c.tables-tables.ensures
+    let many = length-map c.tables-tables.result.now table_of in
+    let is = get_or-map table_of c.tables-tables.result.now c.args.table c.index-tables-table.result none c.if-table-tables.false in
+    let was = c.tables-tables.ensures in
+    search (rules, is, was)

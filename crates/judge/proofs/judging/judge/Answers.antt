@@ -1,4 +1,4 @@
-use Rattle.std.proofs.Common.{◌≡◌, ℕ, Option, sym, refl, ap, ◌∙◌, arith}
+use Rattle.std.proofs.Common.{◌≡◌, ℕ, Option, sym, refl, ap, ◌∙◌, rules}
 use Rattle.layout.specs.Plans.{plan_of}
 use Rattle.rules.specs.Evaluation.{run_for}
 use Rattle.rules.specs.Labels.{no_names}
@@ -28,5 +28,5 @@ unfolding judge
 returns g c =
     let o = g.L.Lattice.answers c.args.lattice.now in
     let p = plan_of c.args.plan.now in
-    let all : c.loop-me.me ≡ p.vendors = omega (arith, c.vendors-me-end.ensures, c.loop-me-test.false, c.loop-me.auto) in
+    let all : c.loop-me.me ≡ p.vendors = search rules in
     c.loop-me.invariant.0 ∙ ap (over (λ v. verdict o p (script_of c.args.script.now) no_names (run_for v) o.bottom)) all
