@@ -24,7 +24,7 @@ pub struct Admitted {
 const HIGHEST_FIGURE: u64 = 1_000_000;
 
 // What becomes of a script that was read from a text of `size` bytes: refused for a flow at its place, else for its
-// figure at the text's end, else admitted with its figure.
+// figure at the text's end, else admitted with its figure. Lattice and plan are taken as the caller below has them.
 fn admit_script<L: Lattice>(
     lattice: &L,
     plan: &Plan,
@@ -42,11 +42,13 @@ fn admit_script<L: Lattice>(
     }
     Ok(Admitted {
         script,
+        // it is at most the highest figure, so no bit is lost
         figure: steps as u32,
     })
 }
 
-// What becomes of a text: it is read, its flows are judged, and its figure is taken.
+// What becomes of a text: it is read, its flows are judged, and its figure is taken. Lattice and plan are taken as the caller has them.
+#[tactic(auto, unfolding(rules::specs::Admission::admission))]
 pub fn admit<L: Lattice>(lattice: &L, plan: &Plan, text: &[u8]) -> Result<Admitted, Refusal>
     ensures { admitted result ≡ admits (L.answers lattice.now) (plan_of plan.now) text.now }
 {

@@ -1,5 +1,10 @@
+ghost use Rattle.std.specs.Prelude.{Some};
+ghost use Rattle.callfile.specs.Names.{written, Names};
+
+use crate::fault::Fault;
 use layout::Pair;
 use std::fmt;
+use std::str::FromStr;
 
 // Which of the built lattices the bench is over.
 #[derive(Clone, Copy, PartialEq, Eq)]
@@ -10,12 +15,29 @@ pub enum LatticeName {
 }
 
 impl fmt::Display for LatticeName {
+    ghost output = { λ name. Some (written name) };
+
     fn fmt<W: fmt::Write>(&self, f: &mut fmt::Formatter<W>) -> fmt::Result {
         f.write_str(match *self {
             LatticeName::Compartments => "compartments",
             LatticeName::Contributors => "contributors",
             LatticeName::Grades => "grades",
         })
+    }
+}
+
+impl FromStr for LatticeName {
+    type Err = Fault;
+
+    ghost from_str_gives = { Names };
+
+    fn from_str(name: &str) -> Result<LatticeName, Fault> {
+        match name {
+            "compartments" => Ok(LatticeName::Compartments),
+            "contributors" => Ok(LatticeName::Contributors),
+            "grades" => Ok(LatticeName::Grades),
+            _ => Err(Fault::NoLattice),
+        }
     }
 }
 

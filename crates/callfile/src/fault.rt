@@ -1,8 +1,12 @@
+ghost use Rattle.std.specs.Prelude.{◌≡◌};
+ghost use Rattle.callfile.specs.declared.fault.Fault.TheVariants.{NoMemory, NumberTooLarge};
+
 use std::alloc::{AllocError, AllocFailed};
 use std::fmt;
+use std::num::TryFromIntError;
 
 // Why a line cannot be read.
-#[derive(Clone, Copy)]
+#[derive(Clone, Copy, PartialEq, Eq)]
 pub enum Fault {
     UnknownWord,
     WordMissing,
@@ -16,14 +20,26 @@ pub enum Fault {
 }
 
 impl From<AllocError> for Fault {
+    ghost from_gives = { λ _ fault. fault ≡ NoMemory };
+
     fn from(_error: AllocError) -> Fault {
         Fault::NoMemory
     }
 }
 
 impl<T: Drop> From<AllocFailed<T>> for Fault {
+    ghost from_gives = { λ _ fault. fault ≡ NoMemory };
+
     fn from(_error: AllocFailed<T>) -> Fault {
         Fault::NoMemory
+    }
+}
+
+impl From<TryFromIntError> for Fault {
+    ghost from_gives = { λ _ fault. fault ≡ NumberTooLarge };
+
+    fn from(_error: TryFromIntError) -> Fault {
+        Fault::NumberTooLarge
     }
 }
 

@@ -2,83 +2,53 @@
 ghost use Rattle.std.specs.Prelude.{◌≡◌, false, not, is_some, Ok, Err};
 ghost use Rattle.words.specs.Cuts.{passed_over};
 
-use crate::command::{Command, Declaration, LatticeName};
+use crate::command::{Command, Declaration};
 use crate::fault::Fault;
 use layout::Pair;
 use std::alloc::Global;
 use std::str::from_utf8;
-use words::{Words, cut, number};
+use words::{Words, number, split_once};
 
 // A word as text; one that is no UTF-8 is none of the words that a call file has.
 fn as_text(word: &[u8]) -> &str {
-    match from_utf8(word) {
-        Ok(text) => text,
-        Err(_) => "",
-    }
-}
-
-fn wide(word: &[u8]) -> Result<u64, Fault> {
-    number(word).ok_or(Fault::NoNumber)
+    from_utf8(word).unwrap_or("")
 }
 
 fn narrow(word: &[u8]) -> Result<u32, Fault> {
-    u32::try_from(wide(word)?).ok().ok_or(Fault::NumberTooLarge)
+    let value = number(word).ok_or(Fault::NoNumber)?;
+    Ok(u32::try_from(value)?)
 }
 
-fn next_narrow(words: &mut Words) -> Result<u32, Fault> {
-    narrow(words.next_word().ok_or(Fault::WordMissing)?)
-}
-
-fn lattice(words: &mut Words) -> Result<LatticeName, Fault> {
-    match as_text(words.next_word().ok_or(Fault::WordMissing)?) {
-        "compartments" => Ok(LatticeName::Compartments),
-        "contributors" => Ok(LatticeName::Contributors),
-        "grades" => Ok(LatticeName::Grades),
-        _ => Err(Fault::NoLattice),
-    }
+fn next_word<'a>(words: &mut Words<'a>) -> Result<&'a [u8], Fault> {
+    words.next().ok_or(Fault::WordMissing)
 }
 
 // Numbers with commas between them, or "-" for none.
 fn columns(heap: Global, word: &[u8]) -> Result<Vec<u32>, Fault> {
     let mut all = Vec::new(heap);
-    if as_text(word) == "-" {
+    if matches!(word, [b'-']) {
         return Ok(all);
     }
-    let mut rest = word;
-    for _ in 0..word.len() {
-        let (front, back) = cut(rest, b',');
-        all.push(narrow(front)?)?;
-        if front.len() == rest.len() {
-            return Ok(all);
-        }
-        rest = back;
+    for part in word.split(|byte| *byte == b',') {
+        all.push(narrow(part)?)?;
     }
-    Err(Fault::NoNumber)
+    Ok(all)
 }
 
 fn pair(word: &[u8]) -> Result<Pair, Fault> {
-    let (front, back) = cut(word, b':');
-    if front.len() == word.len() {
-        return Err(Fault::NoPair);
-    }
-    let offset = narrow(front)?;
-    let length = narrow(back)?;
-    Ok(Pair { offset, length })
+    let (offset, length) = split_once(word, b':').ok_or(Fault::NoPair)?;
+    Ok(Pair {
+        offset: narrow(offset)?,
+        length: narrow(length)?,
+    })
 }
 
-fn declaration(heap: Global, words: &mut Words, line: usize) -> Result<Declaration, Fault> {
-    let row = next_narrow(words)?;
-    let columns = columns(heap, words.next_word().ok_or(Fault::WordMissing)?)?;
+fn declaration(heap: Global, words: &mut Words) -> Result<Declaration, Fault> {
+    let row = narrow(next_word(words)?)?;
+    let columns = columns(heap, next_word(words)?)?;
     let mut pairs = Vec::new(heap);
-    for _ in 0..line {
-        match words.next_word() {
-            Some(word) => pairs.push(pair(word)?)?,
-            None => return Ok(Declaration {
-                row,
-                columns,
-                pairs,
-            }),
-        }
+    for word in words {
+        pairs.push(pair(word)?)?;
     }
     Ok(Declaration {
         row,
@@ -87,11 +57,11 @@ fn declaration(heap: Global, words: &mut Words, line: usize) -> Result<Declarati
     })
 }
 
-fn command(heap: Global, word: &[u8], words: &mut Words, line: usize) -> Result<Command, Fault> {
+fn command(heap: Global, word: &[u8], words: &mut Words) -> Result<Command, Fault> {
     match as_text(word) {
-        "lattice" => Ok(Command::Lattice(lattice(words)?)),
-        "vendors" => Ok(Command::Vendors(next_narrow(words)?)),
-        "table" => Ok(Command::Table(declaration(heap, words, line)?)),
+        "lattice" => Ok(Command::Lattice(as_text(next_word(words)?).parse()?)),
+        "vendors" => Ok(Command::Vendors(narrow(next_word(words)?)?)),
+        "table" => Ok(Command::Table(declaration(heap, words)?)),
         "open" => Ok(Command::Open),
         _ => Err(Fault::UnknownWord),
     }
@@ -105,11 +75,11 @@ pub fn read_line(heap: Global, line: &[u8]) -> Result<Option<Command>, Fault>
         return Ok(None);
     }
     let mut words = Words::new(line);
-    let Some(word) = words.next_word() else {
+    let Some(word) = words.next() else {
         return Ok(None);
     };
-    let command = command(heap, word, &mut words, line.len())?;
-    match words.next_word() {
+    let command = command(heap, word, &mut words)?;
+    match words.next() {
         Some(_) => Err(Fault::WordLeft),
         None => Ok(Some(command)),
     }

@@ -1,7 +1,7 @@
-pub mod TableReads
-pub mod ValueSteps
-pub mod Strikes
-pub mod Sames
-pub mod PlanParts
-pub mod Telling
-pub mod CallsApart
+pub mod SameCalls
+pub mod Derived
+pub mod Plans
+pub mod Values
+pub mod Seen
+pub mod Verdict
+pub mod AnswerLists

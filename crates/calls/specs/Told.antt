@@ -1,6 +1,7 @@
 -- What calls and answers tell: each case has a number and the values that it brings, and no two are taken for each other.
 use Rattle.std.specs.Prelude.{◌≡◌, ℕ, List, [], ◌∷◌, Some, None, Option}
 use Rattle.std.specs.Borrow.{Bor}
+use Rattle.layout.specs.declared.lot_id.LotId.{LotId}
 use Rattle.rules.specs.declared.refusal.Refusal.{Refusal}
 use Rattle.rules.specs.declared.answer.Answer.{Answer}
 use Rattle.rules.specs.declared.answer.Answer.TheVariants.{Done, Figure, Cell, Rows, Steps, Refused}
@@ -37,11 +38,11 @@ AnswersToldApart = (a b : Answer) → told a ≡ told b → a ≡ b
 
 -- Two calls of the code with the same fields, slices by what they hold.
 pub data SameCall : Call → Call → Type 0 where
-  posts : (table vendor : ℕ) (xs ys : Bor (List ℕ)) → xs.now ≡ ys.now → SameCall (Post table vendor xs) (Post table vendor ys)
+  posts : (lot : LotId ℕ) (xs ys : Bor (List ℕ)) → xs.now ≡ ys.now → SameCall (Post lot xs) (Post lot ys)
   admits : (slot : ℕ) (xs ys : Bor (List ℕ)) → xs.now ≡ ys.now → SameCall (Admit slot xs) (Admit slot ys)
   runs : (slot vendor : ℕ) → SameCall (Run slot vendor) (Run slot vendor)
-  looks : (clearance table vendor place column : ℕ) → SameCall (Look clearance table vendor place column) (Look clearance table vendor place column)
-  counts : (clearance table vendor : ℕ) → SameCall (Count clearance table vendor) (Count clearance table vendor)
+  looks : (clearance : ℕ) (lot : LotId ℕ) (place column : ℕ) → SameCall (Look clearance lot place column) (Look clearance lot place column)
+  counts : (clearance : ℕ) (lot : LotId ℕ) → SameCall (Count clearance lot) (Count clearance lot)
   meters : (clearance : ℕ) → SameCall (Meter clearance) (Meter clearance)
 
 -- Calls of the code that stand for one call are the same.

@@ -1,11 +1,12 @@
+use layout::LotId;
+
 // One of the six calls on a live bench, with all that it brings. A post holds its values and an admission its text where
 // they lie.
-#[derive(Clone, Copy)]
+#[derive(Clone, Copy, PartialEq, Eq)]
 pub enum Call<'a> {
     // Puts a row in front of a lot.
     Post {
-        table: u32,
-        vendor: u32,
+        lot: LotId<u32>,
         values: &'a [u32],
     },
     // Puts a script into a slot.
@@ -21,16 +22,14 @@ pub enum Call<'a> {
     // Reads a cell; place 0 is the newest row.
     Look {
         clearance: u64,
-        table: u32,
-        vendor: u32,
+        lot: LotId<u32>,
         place: u32,
         column: u32,
     },
     // Reads how many rows a lot has, and how many it lost.
     Count {
         clearance: u64,
-        table: u32,
-        vendor: u32,
+        lot: LotId<u32>,
     },
     // Reads the steps of the newest run.
     Meter {

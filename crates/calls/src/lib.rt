@@ -5,12 +5,9 @@
 pub mod agreement;
 pub mod call;
 pub mod hearing;
-pub mod labels;
 pub mod sameness;
 pub mod told;
 
-pub use agreement::agree;
 pub use call::Call;
-pub use hearing::hears;
-pub use labels::{cell_label, row_label};
+pub use hearing::Listener;
 pub use sameness::{same_answers, same_plan};

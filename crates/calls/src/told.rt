@@ -2,22 +2,16 @@
 ghost use Rattle.calls.specs.Told.{RefusalsToldApart, AnswersToldApart, CallsToldApart};
 
 // Calls that stand for one call have the same fields, slices by what they hold.
-pub fn calls_are_told_apart() -> u8
+pub fn calls_are_told_apart()
     ensures { CallsToldApart }
-{
-    0
-}
+{}
 
 // An answer is known by its kind and its values.
-pub fn answers_are_told_apart() -> u8
+pub fn answers_are_told_apart()
     ensures { AnswersToldApart }
-{
-    0
-}
+{}
 
 // A refusal is known by its number and its place.
-pub fn refusals_are_told_apart() -> u8
+pub fn refusals_are_told_apart()
     ensures { RefusalsToldApart }
-{
-    0
-}
+{}

@@ -1,8 +1,8 @@
 -- The names in scope, as the code holds them: oldest first.
-use Rattle.std.proofs.Common.{◌≡◌, ℕ, ◌+◌, ◌<◌, ◌≤◌, Bool, true, false, cond, ◌||◌, ltb, List, [], ◌∷◌, ◌++◌, length, get_or, take, Some, Decides, sym, refl, ap, ◌∙◌, arith}
+use Rattle.std.proofs.Common.{◌≡◌, ℕ, zero, suc, ◌+◌, ◌<◌, Bool, true, false, cond, ◌||◌, ltb, List, [], ◌∷◌, ◌++◌, length, get_or, Some, Decides, sym, refl, ap, zero-add, ◌∙◌, arith}
+use Rattle.std.specs.List.{list_any}
 use Rattle.std.specs.Str.{bytes_eq}
-use Rattle.std.proofs.lemmas.Bool.Decides.{same_from_decides}
-use Rattle.std.proofs.lemmas.List.{take_more, length-take-le}
+use Rattle.std.proofs.lemmas.Bool.Decides.{nat_tests}
 use Rattle.std.proofs.lemmas.Slice.Eq.{bytes_eq-Decides}
 use Rattle.grammar.specs.Scopes.{Scope, look_up}
 use Rattle.grammar.specs.Clauses.{walks, walked}
@@ -33,46 +33,42 @@ with_one ns after n r e a =
     made true = newest_more ns n []
     made false = refl
 
--- One step of the look_up: the next name is the one, or what was found stays.
-pub step_up : (word : List ℕ) (ns : List Name) (i : ℕ) (d : Name) → i < length ns
-    → look_up word (newest_first (take (i + 1) ns) [])
-    ≡ this_or (bytes_eq word (get_or ns i d).letters.now) (record { kind = (get_or ns i d).kind; level = i }) (look_up word (newest_first (take i ns) []))
-step_up word ns i d h =
-    ap (λ xs. look_up word (newest_first xs [])) (take_more ns i d h)
-    ∙ ap (look_up word) (newest_more (take i ns) (get_or ns i d) [])
-    ∙ ap (λ l. this_or (bytes_eq word (get_or ns i d).letters.now) (record { kind = (get_or ns i d).kind; level = l }) (look_up word (newest_first (take i ns) [])))
-    (scope_length (take i ns) ∙ length-take-le i ns (let k : i ≤ length ns = omega (arith, h) in k))
+-- Other names above it do not matter to a word.
+not_equal : (b : Bool) (P : Type 0) → Decides b P → (P → ⊥) → b ≡ false
+not_equal true P by never = absurd (never (by.0 refl))
+not_equal false P by never = refl
 
--- The next name is the one.
-pub found_here : (word : List ℕ) (ns : List Name) (i : ℕ) (d : Name) → i < length ns → (r : Bool) → Decides r (word ≡ (get_or ns i d).letters.now) → r ≡ true
-    → Some (record { kind = (get_or ns i d).kind; level = i }) ≡ look_up word (newest_first (take (i + 1) ns) [])
-found_here word ns i d h r by e =
-    sym (step_up word ns i d h
-    ∙ ap (λ t. this_or t (record { kind = (get_or ns i d).kind; level = i }) (look_up word (newest_first (take i ns) [])))
-    (same_from_decides (bytes_eq word (get_or ns i d).letters.now) r (bytes_eq-Decides word (get_or ns i d).letters.now) by ∙ e))
+pub passed_over : (word : List ℕ) (ns : List Name) (outer : Scope) (d : Name) → ((k : ℕ) → k < length ns → word ≡ (get_or ns k d).letters.now → ⊥)
+    → look_up word (newest_first ns outer) ≡ look_up word outer
+passed_over word [] outer d others = refl
+passed_over word (n ∷ ns) outer d others =
+    passed_over word ns (named_of n ∷ outer) d (λ k h. others (suc k) (omega (arith, h)))
+    ∙ ap (λ b. this_or b (record { kind = n.kind; level = length outer }) (look_up word outer))
+    (not_equal (bytes_eq word n.letters.now) _ (bytes_eq-Decides word n.letters.now) (others 0 (omega arith)))
 
--- The next name is another: what was found stays.
-pub found_before : (word : List ℕ) (ns : List Name) (i : ℕ) (d : Name) → i < length ns → (r : Bool) → Decides r (word ≡ (get_or ns i d).letters.now) → r ≡ false
-    → look_up word (newest_first (take i ns) []) ≡ look_up word (newest_first (take (i + 1) ns) [])
-found_before word ns i d h r by e =
-    sym (step_up word ns i d h
-    ∙ ap (λ t. this_or t (record { kind = (get_or ns i d).kind; level = i }) (look_up word (newest_first (take i ns) [])))
-    (same_from_decides (bytes_eq word (get_or ns i d).letters.now) r (bytes_eq-Decides word (get_or ns i d).letters.now) by ∙ e))
+-- The last of the names with these letters is what they stand for.
+last_found : (word : List ℕ) (ns : List Name) (i : ℕ) (outer : Scope) (d : Name) → i < length ns → word ≡ (get_or ns i d).letters.now
+    → ((k : ℕ) → i < k → k < length ns → word ≡ (get_or ns k d).letters.now → ⊥)
+    → look_up word (newest_first ns outer) ≡ Some (record { kind = (get_or ns i d).kind; level = length outer + i })
+last_found word [] i outer d h same others = absurd (let b : ⊥ = omega (arith, h) in b)
+last_found word (n ∷ ns) zero outer d h same others =
+    passed_over word ns (named_of n ∷ outer) d (λ k l. others (suc k) (omega arith) (omega (arith, l)))
+    ∙ ap (λ b. this_or b (record { kind = n.kind; level = length outer }) (look_up word outer)) ((bytes_eq-Decides word n.letters.now).1 same)
+    ∙ ap (λ l. Some (record { kind = n.kind; level = l })) (let e : length outer ≡ length outer + 0 = omega arith in e)
+last_found word (n ∷ ns) (suc i) outer d h same others =
+    last_found word ns i (named_of n ∷ outer) d (omega (arith, h)) same (λ k l m. others (suc k) (omega (arith, l)) (omega (arith, m)))
+    ∙ ap (λ l. Some (record { kind = (get_or ns i d).kind; level = l })) (let e : suc (length outer) + i ≡ length outer + suc i = omega arith in e)
 
--- Whether there is room for one more.
-pub room_left : (ns : List Name) (n : ℕ) → n ≡ length ns → n < 16 → length (newest_first ns []) < 16
-room_left ns n e h = let l = scope_length ns in omega (arith, l, e, h)
+pub newest_found : (word : List ℕ) (ns : List Name) (i : ℕ) (d : Name) → i < length ns → word ≡ (get_or ns i d).letters.now
+    → ((k : ℕ) → i < k → k < length ns → word ≡ (get_or ns k d).letters.now → ⊥)
+    → look_up word (newest_first ns []) ≡ Some (record { kind = (get_or ns i d).kind; level = i })
+newest_found word ns i d h same others =
+    last_found word ns i [] d h same others ∙ ap (λ l. Some (record { kind = (get_or ns i d).kind; level = l })) (zero-add i)
 
-walk_up : (t : ℕ) (ns : List Name) (i : ℕ) (d : Name) → i < length ns
-    → walked t (newest_first (take (i + 1) ns) []) ≡ walks t (get_or ns i d).kind || walked t (newest_first (take i ns) [])
-walk_up t ns i d h =
-    ap (λ xs. walked t (newest_first xs [])) (take_more ns i d h) ∙ ap (walked t) (newest_more (take i ns) (get_or ns i d) [])
+-- A cursor over the table is among the names, in whatever order they are gone through.
+walked_first : (t : ℕ) (ns : List Name) (outer : Scope) → walked t (newest_first ns outer) ≡ list_any (λ n. walks t n.kind) ns || walked t outer
+walked_first t [] outer = refl
+walked_first t (n ∷ ns) outer = walked_first t ns (named_of n ∷ outer) ∙ grind (arith, nat_tests)
 
--- The next name is a cursor over the table, or it is not.
-pub walk_here : (t : ℕ) (ns : List Name) (i : ℕ) (d : Name) → i < length ns → (r : Bool) → r ≡ walks t (get_or ns i d).kind → r ≡ true
-    → true ≡ walked t (newest_first (take (i + 1) ns) [])
-walk_here t ns i d h r e is = sym (walk_up t ns i d h ∙ ap (λ b. b || walked t (newest_first (take i ns) [])) (sym e ∙ is))
-
-pub walk_before : (t : ℕ) (ns : List Name) (i : ℕ) (d : Name) → i < length ns → (r : Bool) → r ≡ walks t (get_or ns i d).kind → r ≡ false
-    → walked t (newest_first (take i ns) []) ≡ walked t (newest_first (take (i + 1) ns) [])
-walk_before t ns i d h r e is = sym (walk_up t ns i d h ∙ ap (λ b. b || walked t (newest_first (take i ns) [])) (sym e ∙ is))
+pub walked_any : (t : ℕ) (ns : List Name) → list_any (λ n. walks t n.kind) ns ≡ walked t (newest_first ns [])
+walked_any t ns = let e = walked_first t ns [] in grind (arith, nat_tests)

@@ -7,5 +7,6 @@ pub mod parts;
 pub mod steps;
 
 pub use names::{Asked, Bound, Names};
-pub use parts::{Lot, read_column, read_index, read_label, read_lot, width_of};
-pub use steps::{Word, expect_keyword, expect_mark, read_name};
+pub use parts::{Access, Scope, read_column, read_index, read_label, read_lot};
+pub use script::Lot;
+pub use steps::{Placed, expect, read_name};

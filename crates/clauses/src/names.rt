@@ -1,12 +1,14 @@
 // The names in scope, held in place.
-ghost use Rattle.std.specs.Prelude.{◌≡◌, ◌<◌, [], length, Ok};
+ghost use Rattle.std.specs.Prelude.{◌≡◌, ◌<◌, true, [], length, Ok, IfOk};
 ghost use Rattle.std.specs.Option.{option_map};
 ghost use Rattle.grammar.specs.Scopes.{look_up, may_make, use_name, most_names};
 ghost use Rattle.grammar.specs.Clauses.{walks, walked};
 ghost use Rattle.clauses.specs.Names.{bound_of, bound_result, scope_of, with_name, asks};
 
+use crate::steps::Placed;
 use grammar::{NameKind, Refusal};
 use inplace::ArrayVec;
+use script::MOST_NAMES;
 
 // A name: its letters, which are part of the text, and what it stands for.
 #[derive(Clone, Copy)]
@@ -18,7 +20,7 @@ pub(crate) struct Name<'a> {
 // The names in scope, the newest last.
 #[derive(Clone, Copy)]
 pub struct Names<'a> {
-    list: ArrayVec<Name<'a>, 16>,
+    list: ArrayVec<Name<'a>, MOST_NAMES>,
 }
 
 // What a name stands for, and how many names were in scope where it was made.
@@ -28,7 +30,7 @@ pub struct Bound {
     pub level: usize,
 }
 
-// What a use of a name asks for.
+// What a use of a name asks for. It is no closure, of which a public function has to require that it can be called.
 #[derive(Clone, Copy)]
 pub enum Asked {
     Variable,
@@ -41,39 +43,20 @@ impl Asked {
     pub(crate) fn allows(self, kind: NameKind) -> bool
         ensures { result ≡ asks self kind }
     {
-        match kind {
-            NameKind::Variable => match self {
-                Asked::Variable => true,
-                Asked::Index => false,
-                Asked::Cursor => false,
-                Asked::Value => true,
-            },
-            NameKind::Index => match self {
-                Asked::Variable => false,
-                Asked::Index => true,
-                Asked::Cursor => false,
-                Asked::Value => true,
-            },
-            NameKind::Cursor(_) => match self {
-                Asked::Variable => false,
-                Asked::Index => false,
-                Asked::Cursor => true,
-                Asked::Value => false,
-            },
-        }
+        matches!(
+            (self, kind),
+            (Asked::Variable | Asked::Value, NameKind::Variable)
+                | (Asked::Index | Asked::Value, NameKind::Index)
+                | (Asked::Cursor, NameKind::Cursor(_))
+        )
     }
 }
-
-const MOST_NAMES: usize = 16;
 
 // Whether a name is a cursor over a table.
 fn goes_through(kind: NameKind, table: u32) -> bool
     ensures { result ≡ walks table kind }
 {
-    match kind {
-        NameKind::Cursor(own) => table as usize == own,
-        _ => false,
-    }
+    matches!(kind, NameKind::Cursor(own) if own == table as usize)
 }
 
 impl<'a> Names<'a> {
@@ -104,16 +87,9 @@ impl<'a> Names<'a> {
         ensures { option_map bound_of result ≡ look_up word.now (scope_of self.now) }
     {
         let names = self.list.as_slice();
-        let mut newest = None;
-        for (level, name) in names.iter().enumerate() {
-            if word == name.letters {
-                newest = Some(Bound {
-                    kind: name.kind,
-                    level,
-                });
-            }
-        }
-        newest
+        let level = names.iter().rposition(|name| word == name.letters)?;
+        let kind = names[level].kind;
+        Some(Bound { kind, level })
     }
 
     // How many names there are.
@@ -128,41 +104,30 @@ impl<'a> Names<'a> {
         ensures { result ≡ walked table (scope_of self.now) }
     {
         let names = self.list.as_slice();
-        let mut any = false;
-        for name in names {
-            if goes_through(name.kind, table) {
-                any = true;
-            }
-        }
-        any
+        names.iter().any(|name| goes_through(name.kind, table))
     }
 
-    // Whether a name that stands at a place may be made.
-    pub fn may_make(&self, place: usize, word: &[u8]) -> Result<(), Refusal>
-        ensures value { result ≡ may_make place word.now (scope_of self.now) }
+    // Whether a name may be made.
+    pub fn may_make(&self, word: Placed<&[u8]>) -> Result<(), Refusal>
+        ensures value { result ≡ may_make word.entry.place word.entry.value.now (scope_of self.now) }
         ensures room { result ≡ Ok tt → length (scope_of self.now) < most_names }
     {
-        if let Some(_) = self.look_up(word) {
-            return Err(Refusal::NameTaken(place));
+        if self.look_up(word.value).is_some() {
+            return Err(Refusal::NameTaken(word.place));
         }
         if self.count() >= MOST_NAMES {
-            return Err(Refusal::LimitPassed(place));
+            return Err(Refusal::LimitPassed(word.place));
         }
         Ok(())
     }
 
-    // What a name that stands at a place is used for.
-    pub fn use_name(&self, place: usize, asked: Asked, word: &[u8]) -> Result<Bound, Refusal>
-        ensures { bound_result result ≡ use_name place (asks asked) word.now (scope_of self.now) }
+    // What a name is used for.
+    pub fn use_name(&self, asked: Asked, word: Placed<&[u8]>) -> Result<Bound, Refusal>
+        ensures value { bound_result result ≡ use_name word.entry.place (asks asked) word.entry.value.now (scope_of self.now) }
+        ensures kind { IfOk result (λ bound. asks asked bound.kind ≡ true) }
     {
-        match self.look_up(word) {
-            Some(bound) => {
-                if !asked.allows(bound.kind) {
-                    return Err(Refusal::WrongName(place));
-                }
-                Ok(bound)
-            }
-            None => Err(Refusal::WrongName(place)),
-        }
+        self.look_up(word.value)
+            .filter(|bound| asked.allows(bound.kind))
+            .ok_or(Refusal::WrongName(word.place))
     }
 }

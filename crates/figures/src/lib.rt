@@ -19,39 +19,26 @@ const PAST_THE_LIMIT: u64 = 1_000_001;
 fn longest_pair(pairs: &[Pair]) -> u32
     ensures { result ≡ longest_of (map pair_of pairs.now) }
 {
-    let mut most = 0;
-    for pair in pairs {
-        if pair.length > most {
-            most = pair.length;
-        }
-    }
-    most
+    pairs.iter().map(|pair| pair.length).max().unwrap_or(0)
 }
 
-// The length of a table's longest lot; 0 where there is no such table.
+// The length of a table's longest lot; 0 where there is no such table, as the rules have it.
 fn longest_lot(plan: &Plan, table: u32) -> u32
     ensures { result ≡ longest (plan_of plan.now) table }
 {
-    let tables = plan.tables();
-    let at = table as usize;
-    if at >= tables.len() {
-        return 0;
-    }
-    longest_pair(tables[at].lots())
+    plan.table(table as usize)
+        .map_or(0, |found| longest_pair(found.lots()))
 }
 
 // A number, or the first past the limit where that is less.
 fn capped(n: u64) -> u64
     ensures { result ≡ min n 1000001 }
 {
-    if n < PAST_THE_LIMIT {
-        n
-    } else {
-        PAST_THE_LIMIT
-    }
+    n.min(PAST_THE_LIMIT)
 }
 
-// The figure of a statement that makes `turns` turns of a block, with that of the rest of its own block.
+// The figure of a statement that makes `turns` turns of a block, or visits as many rows with none, with that of the rest of its own
+// block.
 fn turning(turns: u32, body: u64, rest: u64) -> u64
     requires { (body ≤ 1000001) × (rest ≤ 1000001) }
     ensures { result ≡ min (1 + turns * (1 + body) + rest) 1000001 }
@@ -67,67 +54,34 @@ fn branching(first: u64, second: u64, rest: u64) -> u64
     capped(1 + (first + second) + rest)
 }
 
-// The figure of a statement that visits `rows` rows, with that of the rest of its block.
-fn visiting(rows: u32, rest: u64) -> u64
-    requires { rest ≤ 1000001 }
-    ensures { result ≡ min (1 + rows + rest) 1000001 }
-{
-    capped(1 + u64::from(rows) + rest)
-}
-
 // The figure of a block.
+#[tactic(auto, using(crate::proofs::Steps::turns_capped), unfolding(rules::specs::Figures::figure))]
 fn block_figure(script: &Script, plan: &Plan, block: usize) -> u64
     ensures { result ≡ min (rules.figure (plan_of plan.now) (block_at (codes_of script.now) block)) 1000001 }
 {
-    let Some(stmt) = script.stmt(block) else {
+    let Some(node) = script.stmt(block) else {
         return 0;
     };
-    match stmt {
-        Stmt::Var { rest, .. } => capped(1 + block_figure(script, plan, rest)),
-        Stmt::Set { rest, .. } => capped(1 + block_figure(script, plan, rest)),
-        Stmt::If {
-            first,
-            second,
-            rest,
-            ..
-        } => {
-            let on = block_figure(script, plan, first);
-            let off = block_figure(script, plan, second);
-            branching(on, off, block_figure(script, plan, rest))
+    let rest = block_figure(script, plan, node.rest);
+    match node.stmt {
+        Stmt::Var { .. } | Stmt::Set { .. } | Stmt::Add { .. } => capped(1 + rest),
+        Stmt::If { first, second, .. } | Stmt::When { first, second, .. } => {
+            let first = block_figure(script, plan, first);
+            let second = block_figure(script, plan, second);
+            branching(first, second, rest)
         }
-        Stmt::When {
-            first,
-            second,
-            rest,
-            ..
-        } => {
-            let same = block_figure(script, plan, first);
-            let other = block_figure(script, plan, second);
-            branching(same, other, block_figure(script, plan, rest))
-        }
-        Stmt::Vendors { body, rest } => {
+        Stmt::Vendors { body } => {
             let turn = block_figure(script, plan, body);
-            turning(plan.vendors(), turn, block_figure(script, plan, rest))
+            turning(plan.vendors(), turn, rest)
         }
-        Stmt::Each {
-            table,
-            body,
-            rest,
-            ..
-        } => {
+        Stmt::Each { lot, body } => {
             let row = block_figure(script, plan, body);
-            let most = longest_lot(plan, table);
-            turning(most, row, block_figure(script, plan, rest))
+            let most = longest_lot(plan, lot.table);
+            turning(most, row, rest)
         }
-        Stmt::Add { rest, .. } => capped(1 + block_figure(script, plan, rest)),
-        Stmt::Drop { table, rest, .. } => visiting(
-            longest_lot(plan, table),
-            block_figure(script, plan, rest),
-        ),
-        Stmt::Alter { table, rest, .. } => visiting(
-            longest_lot(plan, table),
-            block_figure(script, plan, rest),
-        ),
+        Stmt::Drop { lot, .. } | Stmt::Alter { lot, .. } => {
+            turning(longest_lot(plan, lot.table), 0, rest)
+        }
     }
 }
 

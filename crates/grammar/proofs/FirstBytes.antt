@@ -1,19 +1,15 @@
 -- What is read where the blanks end, by the byte that stands there.
-use Rattle.std.proofs.Common.{◌≡◌, ℕ, ◌+◌, ◌<◌, ◌≤◌, true, false, cond, List, ◌∷◌, length, get_or, drop, Ok, Option, sym, ap, ◌∙◌, add-zero, arith}
-use Rattle.std.proofs.lemmas.List.{at_drop_more, at_drop_all, drop_more}
+use Rattle.std.proofs.Common.{◌≡◌, ℕ, ◌+◌, ◌<◌, ◌≤◌, true, false, cond, List, ◌∷◌, length, get_or, drop, Ok, Option, sym, ap, ◌∙◌, arith}
+use Rattle.std.proofs.lemmas.Grind.{common_steps}
+use Rattle.std.proofs.lemmas.Bool.Decides.{nat_tests}
+use Rattle.std.proofs.lemmas.List.{at_drop_more, drop_more}
 use Rattle.std.specs.List.{prefix_len}
-use Rattle.std.proofs.lemmas.Bool.{le-ltb}
-use Rattle.rules.specs.declared.refusal.Refusal.TheVariants.{NoToken}
-use Rattle.rules.specs.Guards.{guard}
 use Rattle.grammar.specs.declared.keywords.Keyword.{Keyword}
 use Rattle.grammar.specs.Spelling.{keyword_of, mark_of}
-use Rattle.grammar.specs.Tokens.{Token, letter, digit, run, word, found, read, read_word, read_number, read_mark, past_blanks, token_at}
-use Rattle.grammar.proofs.Runs.{length_run}
+use Rattle.grammar.specs.Tokens.{Token, letter, digit, run, word, read, read_word, read_number, read_mark, past_blanks, token_at}
 
 pub read_end : (text : List ℕ) (at : ℕ) → length text ≤ at → read at (drop at text) ≡ Ok (record { token = Token.end; place = at; after = at })
-read_end text at h =
-    let step : read at (drop at text) ≡ Ok (record { token = Token.end; place = at; after = at + 0 }) = at_drop_all (read at) text at h in
-    rw add-zero at step
+read_end text at h = grind (arith, common_steps, nat_tests)
 
 -- by the first byte, tested in this order
 read_first : (text : List ℕ) (at : ℕ) → at < length text
@@ -51,10 +47,4 @@ token_at_is text place at e = ap (λ n. read n (drop n text)) (sym e)
 pub read_short : (text : List ℕ) (place after : ℕ) (part : List ℕ) (k : Option Keyword) (t : Token)
     → after ≡ place + prefix_len letter (drop place text) → part ≡ run letter (drop place text) → length part ≤ 8 → k ≡ keyword_of part → t ≡ word part k
     → Ok (record { token = t; place = place; after = after }) ≡ read_word place (run letter (drop place text))
-read_short text place after part k t e is short which what =
-    let long : length part ≡ prefix_len letter (drop place text) = ap length is ∙ length_run letter (drop place text) in
-    let behind : after ≡ place + length part = omega arith in
-    let token : t ≡ word part (keyword_of part) = what ∙ ap (word part) which in
-    (λ i. Ok (record { token = token i; place = place; after = behind i }))
-    ∙ sym (ap (λ b. guard b (NoToken place) (found (word part (keyword_of part)) place (length part))) (le-ltb 8 (length part) short))
-    ∙ ap (read_word place) is
+read_short text place after part k t e is short which what = grind (arith, common_steps, nat_tests)

@@ -1,15 +1,14 @@
 -- Every token that stands next is found.
-use Rattle.std.proofs.Common.{◌≡◌, ℕ, ◌+◌, ◌^◌, ◌<◌, ◌≤◌, Bool, true, false, ◌||◌, eqb, ltb, leb, List, length, get_or, drop, Some, None, Ok, sym, refl, ap, ◌∙◌, subst, arith}
+use Rattle.std.proofs.Common.{◌≡◌, ℕ, ◌+◌, ◌^◌, ◌<◌, ◌≤◌, Bool, true, false, ◌||◌, List, length, get_or, drop, Some, None, Ok, sym, refl, ap, ◌∙◌, subst, arith}
+use Rattle.std.proofs.lemmas.Grind.{common_steps}
+use Rattle.std.proofs.lemmas.Bool.Decides.{nat_tests}
 use Rattle.std.specs.Str.Parse.{digits_value}
 use Rattle.std.specs.List.{prefix_len}
-use Rattle.std.proofs.lemmas.Bool.{or_parts, or_from, and_left, and_right, eqb-true, ltb-true, lt-leb}
-use Rattle.std.proofs.lemmas.Bool.Decides.{nat_tests}
-use Rattle.rules.specs.declared.refusal.Refusal.TheVariants.{NoToken}
-use Rattle.rules.specs.Guards.{guard}
+use Rattle.std.proofs.lemmas.Bool.{or_parts}
 use Rattle.grammar.specs.Spelling.{keyword_of, mark_of}
-use Rattle.grammar.specs.Tokens.{Token, keyword, mark, name, number, end, blank, letter, digit, run, found, leading_zero, read, read_number, read_mark, token_at}
+use Rattle.grammar.specs.Tokens.{Token, keyword, mark, name, number, end, blank, letter, digit, run, leading_zero, read, read_number, read_mark, token_at}
 use Rattle.grammar.specs.TokenRule.{part, Stretch, Longest, Is}
-use Rattle.grammar.proofs.Runs.{length_run, part_is_run}
+use Rattle.grammar.proofs.Runs.{part_is_run}
 use Rattle.grammar.proofs.Stretches.{run_is}
 use Rattle.grammar.proofs.Spelled.{keyword_of_letters, keyword_of_none, mark_of_byte, letters_are_short, plain, mark_is_plain}
 use Rattle.grammar.proofs.FirstBytes.{read_end, read_letter, read_digit, read_other, read_short, token_at_is}
@@ -39,22 +38,10 @@ from_blanks text place at s dark = token_at_is text place at (run_is blank text 
 pub read_plain : (text : List ℕ) (place after : ℕ) (ds : List ℕ) (v : ℕ) → after ≡ place + prefix_len digit (drop place text) → ds ≡ run digit (drop place text)
     → digits_value 10 ds ≡ v → v < 2 ^ 32 → leading_zero ds ≡ false
     → Ok (record { token = number ds v; place = place; after = after }) ≡ read_number place (run digit (drop place text))
-read_plain text place after ds v e is counts fits zero_free =
-    let long : length ds ≡ prefix_len digit (drop place text) = ap length is ∙ length_run digit (drop place text) in
-    let behind : after ≡ place + length ds = omega arith in
-    let passes : (leading_zero ds || leb (2 ^ 32) (digits_value 10 ds)) ≡ false
-    = or_from (leading_zero ds) (leb (2 ^ 32) (digits_value 10 ds)) zero_free (lt-leb (2 ^ 32) (digits_value 10 ds) (omega arith)) in
-    (λ i. Ok (record { token = number ds (sym counts i); place = place; after = behind i }))
-    ∙ sym (ap (λ b. guard b (NoToken place) (found (number ds (digits_value 10 ds)) place (length ds))) passes)
-    ∙ ap (read_number place) is
+read_plain text place after ds v e is counts fits zero_free = grind (arith, common_steps, nat_tests)
 
 no_leading_zero : (ds : List ℕ) → (1 < length ds → get_or ds 0 0 ≡ 48 → ⊥) → leading_zero ds ≡ false
-no_leading_zero ds h = go (eqb (get_or ds 0 0) 48) refl (ltb 1 (length ds)) refl
-  where
-    go : (s : Bool) → eqb (get_or ds 0 0) 48 ≡ s → (t : Bool) → ltb 1 (length ds) ≡ t → leading_zero ds ≡ false
-    go true p true q = absurd (h (ltb-true 1 (length ds) q) (eqb-true (get_or ds 0 0) 48 p))
-    go true p false q = and_right (eqb (get_or ds 0 0) 48) (ltb 1 (length ds)) q
-    go false p t q = and_left (eqb (get_or ds 0 0) 48) (ltb 1 (length ds)) p
+no_leading_zero ds h = grind (arith, nat_tests, h)
 
 pub next_found : (text : List ℕ) (place at after : ℕ) (t : Token) → Stretch blank text place at → Is text at after t
     → token_at text place ≡ Ok (record { token = t; place = at; after = after })

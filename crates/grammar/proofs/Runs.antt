@@ -1,5 +1,7 @@
 -- The longest run at the front of a text: how long it is, what it holds, and where it ends.
-use Rattle.std.proofs.Common.{◌≡◌, ℕ, ◌+◌, ◌-◌, ◌≤◌, Bool, true, false, List, [], ◌∷◌, length, take, drop, refl, ap, one-add, arith, length-drop}
+use Rattle.std.proofs.Common.{◌≡◌, ℕ, ◌+◌, ◌-◌, ◌≤◌, Bool, true, false, List, [], ◌∷◌, length, take, drop, refl, one-add, arith, length-drop}
+use Rattle.std.proofs.lemmas.Grind.{common_steps}
+use Rattle.std.proofs.lemmas.Bool.Decides.{nat_tests}
 use Rattle.std.specs.List.{prefix_len, AllByRecursion}
 use Rattle.std.proofs.lemmas.List.{length-take-le}
 use Rattle.std.proofs.lemmas.List.Sums.{prefix_len-le-length}
@@ -24,6 +26,4 @@ run_within such text place h = omega (arith, prefix_len-le-length such (drop pla
 -- the part of a text from a place to the end of the run there is the run
 pub part_is_run : (such : ℕ → Bool) (text : List ℕ) (place after : ℕ) → after ≡ place + prefix_len such (drop place text)
     → take (after - place) (drop place text) ≡ run such (drop place text)
-part_is_run such text place after e =
-    let n : after - place ≡ prefix_len such (drop place text) = omega arith in
-    ap (λ k. take k (drop place text)) n
+part_is_run such text place after e = grind (arith, common_steps, nat_tests)

@@ -1,5 +1,7 @@
 -- The laws of names in scope.
 use Rattle.std.proofs.Common.{◌≡◌, ℕ, suc, ◌-◌, ◌<◌, Bool, true, false, not, ◌&&◌, leb, List, [], ◌∷◌, ◌++◌, length, get_or, is_some, Some, Ok, sym, refl, ap, ◌∙◌, subst, ⊎_elim, arith, length-append}
+use Rattle.std.proofs.lemmas.Grind.{common_steps}
+use Rattle.std.proofs.lemmas.Bool.Decides.{nat_tests}
 use Rattle.std.specs.Str.{bytes_eq}
 use Rattle.std.proofs.lemmas.Slice.Eq.{bytes_eq-Decides}
 use Rattle.std.proofs.lemmas.List.{drop_at}
@@ -13,11 +15,7 @@ same_self : (word : List ℕ) → bytes_eq word word ≡ true
 same_self word = (bytes_eq-Decides word word).1 refl
 
 apart : (word other : List ℕ) → (other ≡ word → ⊥) → bytes_eq other word ≡ false
-apart word other differ = go (bytes_eq other word) refl
-  where
-    go : (t : Bool) → bytes_eq other word ≡ t → bytes_eq other word ≡ false
-    go true e = absurd (differ ((bytes_eq-Decides other word).0 e))
-    go false e = e
+apart word other differ = grind (arith, bytes_eq-Decides other word, differ)
 
 pub newest_is_found : NewestIsFound
 newest_is_found word kind scope =
@@ -29,9 +27,7 @@ others_stay word other kind scope differ =
 
 -- a name made before the newest
 older : (n : Named) (scope : Scope) (level : ℕ) (none : Named) → level < length scope → at_level level (n ∷ scope) none ≡ at_level level scope none
-older n scope level none h =
-    let step : suc (length scope) - 1 - level ≡ suc (length scope - 1 - level) = omega arith in
-    ap (λ i. get_or (n ∷ scope) i none) step
+older n scope level none h = grind (arith, common_steps, nat_tests)
 
 pub found_names_are_there : FoundNamesAreThere
 found_names_are_there word [] b e = let z : ◌≡◌ {A = ℕ} 0 1 = cc in absurd (omega arith)

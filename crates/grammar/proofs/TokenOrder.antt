@@ -1,5 +1,7 @@
 -- The tokens of a text lie one behind the other, and none is left out.
 use Rattle.std.proofs.Common.{◌≡◌, ℕ, zero, suc, ◌+◌, ◌≤◌, Bool, true, false, List, length, Ok, Err, Result, refl, ap, ◌∙◌, arith}
+use Rattle.std.proofs.lemmas.Grind.{common_steps}
+use Rattle.std.proofs.lemmas.Bool.Decides.{nat_tests}
 use Rattle.std.proofs.lemmas.Bool.{both_ways}
 use Rattle.grammar.specs.Tokens.{Refusal, Token, end, Found, token_at}
 use Rattle.grammar.specs.TokenList.{is_end, list_on, tokens_from, Rising, behind_all, over, TokensAreInOrder}
@@ -15,17 +17,7 @@ no_end t p e = both_ways (is_end t) p (ap is_end e)
 
 -- a token at the end of the text would have no byte
 over_at_end : (text : List ℕ) (place : ℕ) → place ≡ length text → over (token_at text place) ≡ true
-over_at_end text place h = go (token_at text place) refl
-  where
-    go : (r : Result Found Refusal) → token_at text place ≡ r → over (token_at text place) ≡ true
-    go (Err why) e = ap over e
-    go (Ok f) e = one (is_end f.token) refl
-      where
-        one : (t : Bool) → is_end f.token ≡ t → over (token_at text place) ≡ true
-        one true p = ap over e ∙ p
-        one false p =
-            let lies = tokens_lie_within text place (omega arith) f e in
-            absurd (omega (arith, lies.from, lies.within, lies.some (no_end f.token p)))
+over_at_end text place h = grind (arith, common_steps, nat_tests, tokens_lie_within text place)
 
 pub in_order : (n : ℕ) (text : List ℕ) (place : ℕ) → place ≤ length text → InOrder text place n (tokens_from n text place)
 in_order zero text place h = record { rising = h; whole = λ full. over_at_end text place (omega arith) }

@@ -13,43 +13,31 @@ pub enum NameKind {
 }
 
 // The newest name is found as it was made.
-pub fn newest_is_found() -> u8
+pub fn newest_is_found()
     ensures { NewestIsFound }
-{
-    0
-}
+{}
 
 // A new name changes what no other name stands for.
-pub fn others_stay() -> u8
+pub fn others_stay()
     ensures { OthersStay }
-{
-    0
-}
+{}
 
 // What is found stands in the scope, at its level and of its kind.
-pub fn found_names_are_there() -> u8
+pub fn found_names_are_there()
     ensures { FoundNamesAreThere }
-{
-    0
-}
+{}
 
 // A name that may be made leaves the names in scope different and at most 16.
-pub fn fresh_names_keep_scopes_sound() -> u8
+pub fn fresh_names_keep_scopes_sound()
     ensures { FreshNamesKeepScopesSound }
-{
-    0
-}
+{}
 
 // Where the names in scope are different, each is found.
-pub fn every_name_is_found() -> u8
+pub fn every_name_is_found()
     ensures { EveryNameIsFound }
-{
-    0
-}
+{}
 
 // Going back to the number of names before a block forgets the block's names and no other.
-pub fn leaving_forgets() -> u8
+pub fn leaving_forgets()
     ensures { LeavingForgets }
-{
-    0
-}
+{}

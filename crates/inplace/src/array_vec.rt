@@ -10,6 +10,7 @@ pub struct ArrayVec<T, const N: usize> {
     ghost fits: { len ≤ N },
 }
 
+// By hand, since a generic struct with a ghost field derives no `Clone`.
 impl<T: Copy, const N: usize> Copy for ArrayVec<T, N> {}
 
 impl<T: Copy, const N: usize> Clone for ArrayVec<T, N> {

@@ -1,33 +1,102 @@
--- Arrays as functions of the level.
-use Rattle.std.proofs.Common.{◌≡◌, ℕ, ◌<◌, ◌≤◌, Bool, true, false, cond, eqb, ◌⊎◌, List, length, get_or, set, replicate, refl, ap, ◌∙◌, inl, inr}
+-- Names by their levels, as the rules' functions of the level.
+use Rattle.std.proofs.Common.{◌≡◌, ℕ, suc, ◌+◌, ◌<◌, ◌≤◌, Bool, true, false, cond, eqb, ltb, ◌⊎◌, List, [], ◌∷◌, ◌++◌, length, get_or, sym, refl, ap, ◌∙◌, inl, inr, arith, add-one, length-append}
 use mathlib.Core.Path.{fun_ext}
-use Rattle.std.proofs.lemmas.List.{get_or-set_same, get_or-set_other, get_or-replicate, get_or_past, length-replicate}
-use Rattle.std.proofs.lemmas.Bool.{eqb-true, eqb-false, cases_lt}
+use Rattle.std.proofs.lemmas.List.{append-nil, get_or_append_left, get_or_past}
+use Rattle.std.proofs.Math.Seq.{get_or-append_seam}
+use Rattle.std.proofs.lemmas.Bool.{eqb-true, eqb-false, cases_lt, lt-ltb, le-ltb, cond-true, cond-false}
+use Rattle.inplace.specs.Held.{held}
 use Rattle.rules.specs.Lots.{upd}
 use Rattle.rules.specs.Labels as rules
 use Rattle.rules.specs.Evaluation as evaluation
+use Rattle.judge.specs.declared.name.Name.{Name}
+use Rattle.judge.specs.declared.name.Name.TheVariants.{Unknown, Open, Tagged, Turn, Cursor}
+use Rattle.judge.specs.declared.standing.Standing.{Standing}
+use Rattle.judge.specs.Names.{name_of, turn_vendor, scope_of, val_of, with_name}
+use Rattle.judge.specs.Breaking.{index_vendor, indexes_below}
 
--- an array changed at a place
-pub set_is_upd : {A B : Type 0} (f : A → B) (xs : List A) (k : ℕ) (x d : A) → k < length xs
-    → ◌≡◌ {A = ℕ → B} (λ j. f (get_or (set xs k x) j d)) (upd (λ j. f (get_or xs j d)) k (f x))
-set_is_upd f xs k x d h = fun_ext (λ j. go j (eqb j k) refl)
+-- what is seen of the name at a level
+abbrev seen : {B : Type 0} → (Name → B) → List Name → ℕ → B
+seen f xs level = f (get_or xs level Unknown)
+
+-- one name more is a change at the next level
+one_more : {B : Type 0} (f : Name → B) (xs : List Name) (x : Name) → seen f (xs ++ x ∷ []) ≡ upd (seen f xs) (length xs) (f x)
+one_more f xs x = fun_ext (λ j. go j (eqb j (length xs)) refl (cases_lt j (length xs)))
   where
-    go : (j : ℕ) (b : Bool) → eqb j k ≡ b → f (get_or (set xs k x) j d) ≡ cond b (f x) (f (get_or xs j d))
-    go j true e = ap (λ n. f (get_or (set xs k x) n d)) (eqb-true j k e) ∙ ap f (get_or-set_same xs k x d h)
-    go j false e = ap f (get_or-set_other xs k j x d (eqb-false j k e))
+    go : (j : ℕ) (b : Bool) → eqb j (length xs) ≡ b → (j < length xs) ⊎ (length xs ≤ j) → seen f (xs ++ x ∷ []) j ≡ cond b (f x) (seen f xs j)
+    go j true e k = ap (λ n. f (get_or (xs ++ x ∷ []) n Unknown)) (eqb-true j (length xs) e) ∙ ap f (get_or-append_seam xs x [] Unknown)
+    go j false e (inl h) = ap f (get_or_append_left xs (x ∷ []) Unknown j h)
+    go j false e (inr h) =
+        let other = eqb-false j (length xs) e in
+        let past : length (xs ++ x ∷ []) ≤ j = omega (arith, length-append xs (x ∷ []), other) in
+        ap f (get_or_past (xs ++ x ∷ []) j Unknown past ∙ sym (get_or_past xs j Unknown h))
 
--- an array of one thing
-pub all_alike : {A B : Type 0} (f : A → B) (n : ℕ) (x : A) → ◌≡◌ {A = ℕ → B} (λ j. f (get_or (replicate n x) j x)) (λ _. f x)
-all_alike f n x = fun_ext (λ j. ap f (go j (cases_lt j n)))
+abbrev pub scope_over : List Name → rules.Scope
+scope_over xs = record { depth = length xs; names = seen name_of xs }
+
+abbrev pub val_over : ℕ → List Name → evaluation.Valuation
+val_over mine xs = record { mine = mine; indexes = seen turn_vendor xs }
+
+pub scope_more : (xs : List Name) (x : Name) → scope_over (xs ++ x ∷ []) ≡ rules.enter (scope_over xs) (name_of x)
+scope_more xs x =
+    let longer : length (xs ++ x ∷ []) ≡ suc (length xs) = omega (arith, length-append xs (x ∷ [])) in
+    λ i. record { depth = longer i; names = one_more name_of xs x i }
+
+-- a change to what stands there already
+same_there : (xs : List Name) → upd (seen turn_vendor xs) (length xs) 0 ≡ seen turn_vendor xs
+same_there xs = fun_ext (λ j. go j (eqb j (length xs)) refl)
   where
-    go : (j : ℕ) → (j < n) ⊎ (n ≤ j) → get_or (replicate n x) j x ≡ x
-    go j (inl h) = get_or-replicate n j x x h
-    go j (inr h) = get_or_past (replicate n x) j x (rw (length-replicate n x) h)
+    go : (j : ℕ) (b : Bool) → eqb j (length xs) ≡ b → cond b 0 (seen turn_vendor xs j) ≡ seen turn_vendor xs j
+    go j true e = let past : length xs ≤ j = omega (arith, eqb-true j (length xs) e) in sym (ap turn_vendor (get_or_past xs j Unknown past))
+    go j false e = refl
 
-pub same_scope : (d e : ℕ) (f g : ℕ → rules.Name) → d ≡ e → f ≡ g
-    → ◌≡◌ {A = rules.Scope} (record { depth = d; names = f }) (record { depth = e; names = g })
-same_scope d e f g p q = λ i. record { depth = p i; names = q i }
+none_more : (mine : ℕ) (xs : List Name) (x : Name) → turn_vendor x ≡ 0 → val_over mine (xs ++ x ∷ []) ≡ val_over mine xs
+none_more mine xs x none =
+    let same = one_more turn_vendor xs x ∙ ap (upd (seen turn_vendor xs) (length xs)) none ∙ same_there xs in
+    λ i. record { mine = mine; indexes = same i }
 
-pub same_valuation : (m : ℕ) (f g : ℕ → ℕ) → f ≡ g
-    → ◌≡◌ {A = evaluation.Valuation} (record { mine = m; indexes = f }) (record { mine = m; indexes = g })
-same_valuation m f g q = λ i. record { mine = m; indexes = q i }
+pub val_more : (mine : ℕ) (xs : List Name) (x : Name) → val_over mine (xs ++ x ∷ []) ≡ with_name (val_over mine xs) (length xs) x
+val_more mine xs Unknown = none_more mine xs Unknown refl
+val_more mine xs Open = none_more mine xs Open refl
+val_more mine xs (Tagged family vendor) = none_more mine xs (Tagged family vendor) refl
+val_more mine xs (Turn vendor) = λ i. record { mine = mine; indexes = one_more turn_vendor xs (Turn vendor) i }
+val_more mine xs (Cursor lot) = none_more mine xs (Cursor lot) refl
+
+-- a name past the end is none
+pub name_there : (xs : List Name) (level : ℕ) → name_of (get_or xs level Unknown) ≡ rules.name_at (scope_over xs) level
+name_there xs level = go (cases_lt level (length xs))
+  where
+    go : (level < length xs) ⊎ (length xs ≤ level) → name_of (get_or xs level Unknown) ≡ cond (ltb level (length xs)) (name_of (get_or xs level Unknown)) rules.Name.unknown
+    go (inl h) = sym (cond-true _ _ _ (lt-ltb level (length xs) h))
+    go (inr h) = ap name_of (get_or_past xs level Unknown h) ∙ sym (cond-false _ _ _ (le-ltb level (length xs) h))
+
+-- a standing with one name more
+pub entered_scope : (r s : Standing) (x : Name) → held r.names ≡ held s.names ++ x ∷ [] → scope_of r ≡ rules.enter (scope_of s) (name_of x)
+unfolding scope_of
+entered_scope r s x e = ap scope_over e ∙ scope_more (held s.names) x
+
+pub entered_val : (r s : Standing) (x : Name) → r.mine ≡ s.mine → held r.names ≡ held s.names ++ x ∷ [] → val_of r ≡ with_name (val_of s) (scope_of s).depth x
+unfolding val_of scope_of
+entered_val r s x same e = (λ i. val_over (same i) (e i)) ∙ val_more s.mine (held s.names) x
+
+-- The vendors of the indexes below a level.
+module _ (s : Standing) where
+  abbrev below : ℕ → List ℕ
+  below n = indexes_below (scope_of s) (val_of s) n
+
+  abbrev at : ℕ → Name
+  at n = get_or (held s.names) n Unknown
+
+  pub turn_below : (n v : ℕ) → at n ≡ Turn v → below (n + 1) ≡ below n ++ v ∷ []
+  unfolding scope_of val_of
+  turn_below n v e = ap below (add-one n) ∙ ap (λ x. below n ++ index_vendor (name_of x) (turn_vendor x)) e
+
+  none : (x : Name) → ((v : ℕ) → x ≡ Turn v → ⊥) → index_vendor (name_of x) (turn_vendor x) ≡ []
+  none Unknown other = refl
+  none Open other = refl
+  none (Tagged family vendor) other = refl
+  none (Turn vendor) other = absurd (other vendor refl)
+  none (Cursor lot) other = refl
+
+  pub none_below : (n : ℕ) → ((v : ℕ) → at n ≡ Turn v → ⊥) → below (n + 1) ≡ below n
+  unfolding scope_of val_of
+  none_below n other = ap below (add-one n) ∙ ap (λ ys. below n ++ ys) (none (at n) other) ∙ append-nil (below n)

@@ -1,5 +1,5 @@
 pub mod Levels
-pub mod Tables
-pub mod Parts
 pub mod Cells
 pub mod Steps
+pub mod Breaches
+pub mod Faults

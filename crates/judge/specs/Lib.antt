@@ -1,2 +1,4 @@
 pub mod Names
+pub mod Blocks
 pub mod Verdicts
+pub mod Breaking

@@ -1,115 +1,155 @@
-// Which flows are allowed: the rule of each flat statement, at one valuation.
-ghost use Rattle.std.specs.Prelude.{◌≡◌, ◌<◌, map, length};
+// The flows of each flat statement, held against the lattice where the statement stands. Where it stands, the label of its context and
+// its place in the text come from three hands and meet in these calls alone.
+ghost use Rattle.std.specs.Prelude.{◌≡◌, ◌<◌, map};
 ghost use Rattle.layout.specs.Plans.{plan_of};
 ghost use Rattle.rules.specs.Flows.{set_flows, cells_flow, add_flows, drop_flows, alter_flows};
+ghost use Rattle.rules.specs.Judging as rules;
 ghost use Rattle.script.specs.Nodes.{expr_at};
 ghost use Rattle.script.specs.Meaning.{exprs_of};
-ghost use Rattle.judge.specs.Names.{scope_of};
+ghost use Rattle.judge.specs.Names.{depth_of, scope_of, val_of};
+ghost use Rattle.judge.specs.Verdicts.{told, found, Of};
+ghost use Rattle.judge.specs.Breaking.{Breach, SetBreaks, CellBreaks, AddBreaks, DropBreaks, AlterBreaks};
 
-use crate::labels::{cell_label, expr_label, held_label, row_label};
+use crate::broken::Broken;
+use crate::judging::Judge;
 use crate::name::Name;
-use crate::scope::Scope;
+use crate::standing::Standing;
 use lattice::Lattice;
-use layout::Plan;
-use script::Script;
+use layout::LotId;
 
-// `set`: context and expression at or below the variable's label.
-pub(crate) fn set_flows<L: Lattice>(
-    lattice: &L,
-    plan: &Plan,
-    script: &Script,
-    scope: &Scope,
-    context: u64,
-    level: usize,
-    value: usize,
-) -> bool
-    ensures { result ≡ set_flows (L.answers lattice.now) (plan_of plan.now) (scope_of scope.now) context level (expr_at (exprs_of script.now) value) }
-{
-    let flowing = lattice.join(context, expr_label(lattice, plan, script, scope, value));
-    lattice.below(flowing, held_label(lattice, scope.at(level)))
+// The labels of a flow: the one that flows, and the one that it is held against.
+#[derive(Clone, Copy)]
+struct Flow {
+    flowing: u64,
+    limit: u64,
 }
 
-// Each expression at or below the label of its cell.
-fn cells_flow<L: Lattice>(
-    lattice: &L,
-    plan: &Plan,
-    script: &Script,
-    scope: &Scope,
-    table: u32,
-    vendor: u32,
-    values: &[usize],
-) -> bool
-    requires { length values.now < 4294967296 }
-    ensures { result ≡ cells_flow (L.answers lattice.now) (plan_of plan.now) (scope_of scope.now) table vendor 0 (map (expr_at (exprs_of script.now)) values.now) }
-{
-    let mut column: u32 = 0;
-    for value in values {
-        let flowing = expr_label(lattice, plan, script, scope, *value);
-        if !lattice.below(flowing, cell_label(lattice, plan, table, vendor, column)) {
-            return false;
+impl<'a, L: Lattice> Judge<'a, L> {
+    // Holds a flow of the statement at a place against the lattice: the one question that it is asked of it.
+    #[tactic(auto, unfolding(crate::specs::Names::val_of))]
+    fn check_flow(&self, standing: &Standing, place: usize, flow: Flow) -> Result<(), Broken>
+        ensures answer { found result ≡ rules.flow place ((L.answers self.now.policy.lattice.now).below flow.flowing flow.limit) }
+        ensures why { Of (told result) (λ b. Breach (L.answers self.now.policy.lattice.now) b place (scope_of standing.now) (val_of standing.now) flow.flowing flow.limit) }
+    {
+        if self.policy.lattice.below(flow.flowing, flow.limit) {
+            return Ok(());
         }
-        column += 1;
+        Err(Broken {
+            place,
+            flowing: flow.flowing,
+            limit: flow.limit,
+            me: standing.mine,
+            indexes: standing.indexes(),
+        })
     }
-    true
-}
 
-// `add`: the context at or below the row label, and each expression at or below its cell's.
-pub(crate) fn add_flows<L: Lattice>(
-    lattice: &L,
-    plan: &Plan,
-    script: &Script,
-    scope: &Scope,
-    context: u64,
-    table: u32,
-    vendor: u32,
-    values: &[usize],
-) -> bool
-    requires { length values.now < 4294967296 }
-    ensures { result ≡ add_flows (L.answers lattice.now) (plan_of plan.now) (scope_of scope.now) context table vendor (map (expr_at (exprs_of script.now)) values.now) }
-{
-    lattice.below(context, row_label(lattice, plan, table, vendor))
-        && cells_flow(lattice, plan, script, scope, table, vendor, values)
-}
+    // `set`: context and expression, against the variable's label.
+    pub(crate) fn check_set(
+        &self,
+        standing: &Standing,
+        context: u64,
+        place: usize,
+        level: usize,
+        value: usize,
+    ) -> Result<(), Broken>
+        ensures answer { found result ≡ rules.flow place (set_flows (L.answers self.now.policy.lattice.now) (plan_of self.now.policy.plan.now) (scope_of standing.now) context level (expr_at (exprs_of self.now.script.now) value)) }
+        ensures why { Of (told result) (λ b. SetBreaks (L.answers self.now.policy.lattice.now) (plan_of self.now.policy.plan.now) b (scope_of standing.now) (val_of standing.now) context place level (expr_at (exprs_of self.now.script.now) value)) }
+    {
+        let written = self.expr_label(standing, value);
+        let flow = Flow {
+            flowing: self.policy.lattice.join(context, written),
+            limit: self.held_label(standing.at(level)),
+        };
+        self.check_flow(standing, place, flow)
+    }
 
-// `drop`: context and condition at or below the row label.
-pub(crate) fn drop_flows<L: Lattice>(
-    lattice: &L,
-    plan: &Plan,
-    script: &Script,
-    scope: &Scope,
-    context: u64,
-    table: u32,
-    vendor: u32,
-    condition: usize,
-) -> bool
-    requires { scope.now.depth < 64 }
-    ensures { result ≡ drop_flows (L.answers lattice.now) (plan_of plan.now) (scope_of scope.now) context table vendor (expr_at (exprs_of script.now) condition) }
-{
-    let inner = scope.enter(Name::Cursor(table, vendor));
-    let deciding = expr_label(lattice, plan, script, &inner, condition);
-    let flowing = lattice.join(context, deciding);
-    lattice.below(flowing, row_label(lattice, plan, table, vendor))
-}
+    // Each expression of `add` against the label of its cell.
+    #[tactic(auto, using(crate::proofs::Cells::cell_more, crate::proofs::Cells::cell_none, crate::proofs::Cells::cell_breaks))]
+    fn check_cells(
+        &self,
+        standing: &Standing,
+        place: usize,
+        lot: LotId<u32>,
+        values: &[usize],
+    ) -> Result<(), Broken>
+        ensures answer { found result ≡ rules.flow place (cells_flow (L.answers self.now.policy.lattice.now) (plan_of self.now.policy.plan.now) (scope_of standing.now) lot.table lot.vendor 0 (map (expr_at (exprs_of self.now.script.now)) values.now)) }
+        ensures why { Of (told result) (λ b. CellBreaks (L.answers self.now.policy.lattice.now) (plan_of self.now.policy.plan.now) b (scope_of standing.now) (val_of standing.now) place lot.table lot.vendor (map (expr_at (exprs_of self.now.script.now)) values.now)) }
+    {
+        for (column, value) in values.iter().enumerate() {
+            let cell = Flow {
+                flowing: self.expr_label(standing, *value),
+                limit: self.policy.cell_label(lot, column),
+            };
+            self.check_flow(standing, place, cell)?;
+        }
+        Ok(())
+    }
 
-// `alter`: context, value and condition at or below the cell's label.
-pub(crate) fn alter_flows<L: Lattice>(
-    lattice: &L,
-    plan: &Plan,
-    script: &Script,
-    scope: &Scope,
-    context: u64,
-    table: u32,
-    vendor: u32,
-    column: u32,
-    value: usize,
-    condition: usize,
-) -> bool
-    requires { scope.now.depth < 64 }
-    ensures { result ≡ alter_flows (L.answers lattice.now) (plan_of plan.now) (scope_of scope.now) context table vendor column (expr_at (exprs_of script.now) value) (expr_at (exprs_of script.now) condition) }
-{
-    let inner = scope.enter(Name::Cursor(table, vendor));
-    let changed = lattice.join(context, expr_label(lattice, plan, script, &inner, value));
-    let deciding = expr_label(lattice, plan, script, &inner, condition);
-    let flowing = lattice.join(changed, deciding);
-    lattice.below(flowing, cell_label(lattice, plan, table, vendor, column))
+    // `add`: the context against the row label, then each expression against its cell's.
+    pub(crate) fn check_add(
+        &self,
+        standing: &Standing,
+        context: u64,
+        place: usize,
+        lot: LotId<u32>,
+        values: &[usize],
+    ) -> Result<(), Broken>
+        ensures answer { found result ≡ rules.flow place (add_flows (L.answers self.now.policy.lattice.now) (plan_of self.now.policy.plan.now) (scope_of standing.now) context lot.table lot.vendor (map (expr_at (exprs_of self.now.script.now)) values.now)) }
+        ensures why { Of (told result) (λ b. AddBreaks (L.answers self.now.policy.lattice.now) (plan_of self.now.policy.plan.now) b (scope_of standing.now) (val_of standing.now) context place lot.table lot.vendor (map (expr_at (exprs_of self.now.script.now)) values.now)) }
+    {
+        let rows = Flow {
+            flowing: context,
+            limit: self.policy.row_label(lot),
+        };
+        self.check_flow(standing, place, rows)?;
+        self.check_cells(standing, place, lot, values)
+    }
+
+    // `drop`: context and condition, against the row label.
+    pub(crate) fn check_drop(
+        &self,
+        standing: &Standing,
+        context: u64,
+        place: usize,
+        lot: LotId<u32>,
+        condition: usize,
+    ) -> Result<(), Broken>
+        requires { depth_of standing.now < 64 }
+        ensures answer { found result ≡ rules.flow place (drop_flows (L.answers self.now.policy.lattice.now) (plan_of self.now.policy.plan.now) (scope_of standing.now) context lot.table lot.vendor (expr_at (exprs_of self.now.script.now) condition)) }
+        ensures why { Of (told result) (λ b. DropBreaks (L.answers self.now.policy.lattice.now) (plan_of self.now.policy.plan.now) b (scope_of standing.now) (val_of standing.now) context place lot.table lot.vendor (expr_at (exprs_of self.now.script.now) condition)) }
+    {
+        let inner = standing.enter(Name::Cursor(lot));
+        let deciding = self.expr_label(&inner, condition);
+        let flow = Flow {
+            flowing: self.policy.lattice.join(context, deciding),
+            limit: self.policy.row_label(lot),
+        };
+        self.check_flow(standing, place, flow)
+    }
+
+    // `alter`: context, value and condition, against the cell's label.
+    pub(crate) fn check_alter(
+        &self,
+        standing: &Standing,
+        context: u64,
+        place: usize,
+        lot: LotId<u32>,
+        column: u32,
+        value: usize,
+        condition: usize,
+    ) -> Result<(), Broken>
+        requires { depth_of standing.now < 64 }
+        ensures answer { found result ≡ rules.flow place (alter_flows (L.answers self.now.policy.lattice.now) (plan_of self.now.policy.plan.now) (scope_of standing.now) context lot.table lot.vendor column (expr_at (exprs_of self.now.script.now) value) (expr_at (exprs_of self.now.script.now) condition)) }
+        ensures why { Of (told result) (λ b. AlterBreaks (L.answers self.now.policy.lattice.now) (plan_of self.now.policy.plan.now) b (scope_of standing.now) (val_of standing.now) context place lot.table lot.vendor column (expr_at (exprs_of self.now.script.now) value) (expr_at (exprs_of self.now.script.now) condition)) }
+    {
+        let inner = standing.enter(Name::Cursor(lot));
+        let written = self.expr_label(&inner, value);
+        let changed = self.policy.lattice.join(context, written);
+        let deciding = self.expr_label(&inner, condition);
+        let flow = Flow {
+            flowing: self.policy.lattice.join(changed, deciding),
+            limit: self.policy.cell_label(lot, column as usize),
+        };
+        self.check_flow(standing, place, flow)
+    }
 }

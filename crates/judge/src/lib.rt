@@ -1,14 +1,17 @@
 // Judging a script: whether each of its flows is allowed at every valuation, under any lattice of labels.
 #![tactic(auto)]
 
+pub mod broken;
 pub mod context;
 pub mod flows;
 pub mod judging;
 pub mod labels;
 pub mod name;
-pub mod names;
-pub mod scope;
-pub mod valuation;
+pub mod promises;
+pub mod standing;
+pub mod whole;
 
+pub use broken::Broken;
 pub use context::Context;
-pub use judging::{judge, judge_for};
+pub use promises::explained_flows_are_faults;
+pub use whole::{explain, judge, judge_for};

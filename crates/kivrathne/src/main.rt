@@ -6,7 +6,6 @@ mod help;
 mod map;
 mod play;
 mod stop;
-mod why;
 
 use batch::batch;
 use help::help;

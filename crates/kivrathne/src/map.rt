@@ -6,17 +6,16 @@ const SIGNS: &[u8; 32] = b"0123456789ABCDEFGHIJKLMNOPQRSTUV";
 
 const FREE: u8 = b'.';
 
-const SLOTS: usize = 256;
-
 const WIDTH: usize = 64;
 
 // Marks the slots of one lot with its vendor's sign.
 fn paint(slots: &mut [u8; 256], lot: &Pair, sign: u8) {
-    let start = lot.offset as usize;
-    for at in start..SLOTS {
-        if at - start < lot.length as usize {
-            slots[at] = sign;
-        }
+    let lot_slots = slots
+        .iter_mut()
+        .skip(lot.offset as usize)
+        .take(lot.length as usize);
+    for slot in lot_slots {
+        *slot = sign;
     }
 }
 

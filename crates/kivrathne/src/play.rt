@@ -1,35 +1,36 @@
 // Playing a call file.
 use crate::map::show_plan;
 use crate::stop::Stop;
-use crate::why::why;
 use callfile::{Command, Fault, LatticeName, read_line};
 use layout::{Plan, Refusal};
 use std::fs;
 use std::io::{Read, Write};
-use words::cut;
 
 // A bench as the lines before have left it.
 #[derive(Drop)]
 struct Player {
     lattice: LatticeName,
     plan: Plan,
+    // whether `open` was read: no line may follow it, so there is nothing more to hold
     open: bool,
 }
 
-fn answer_line(
-    rt: &HostRuntime,
+// A line of the file, with its number from 1 on.
+#[derive(Clone, Copy)]
+struct Line<'a> {
     number: usize,
-    line: &[u8],
-    answer: Result<(), Refusal>,
-) -> Result<(), Stop> {
+    text: &'a [u8],
+}
+
+fn answer_line(rt: &HostRuntime, line: Line<'_>, answer: Result<(), Refusal>) -> Result<(), Stop> {
+    let number = line.number;
     print!(rt; "{number}: ")?;
-    rt.stdout().write_all(line)?;
+    rt.stdout().write_all(line.text)?;
     match answer {
         Ok(()) => println!(rt; " -> ok")?,
         Err(refusal) => {
             let number = refusal.number();
-            let why = why(&refusal);
-            println!(rt; " -> refused {number}: {why}")?;
+            println!(rt; " -> refused {number}: {refusal}")?;
         }
     }
     Ok(())
@@ -45,33 +46,27 @@ impl Player {
     }
 
     // One command of the plan, with its answer printed.
-    fn obey(
-        &mut self,
-        rt: &HostRuntime,
-        number: usize,
-        line: &[u8],
-        command: Command,
-    ) -> Result<(), Stop> {
+    fn obey(&mut self, rt: &HostRuntime, line: Line<'_>, command: Command) -> Result<(), Stop> {
         if self.open {
-            return Err(Stop::Line(number, Fault::WrongState));
+            return Err(Stop::Line(line.number, Fault::WrongState));
         }
         match command {
             Command::Lattice(name) => {
                 self.lattice = name;
                 Ok(())
             }
-            Command::Vendors(count) => answer_line(rt, number, line, self.plan.set_vendors(count)),
+            Command::Vendors(count) => answer_line(rt, line, self.plan.set_vendors(count)),
             Command::Table(declared) => {
                 let answer = self.plan.declare(
                     declared.row,
                     declared.columns.as_slice(),
                     declared.pairs.as_slice(),
                 );
-                answer_line(rt, number, line, answer)
+                answer_line(rt, line, answer)
             }
             Command::Open => {
                 self.open = true;
-                answer_line(rt, number, line, Ok(()))?;
+                answer_line(rt, line, Ok(()))?;
                 show_plan(rt, &self.plan)
             }
         }
@@ -81,17 +76,15 @@ impl Player {
 // Plays each line of a text; one that cannot be read ends the play.
 fn play_text(rt: &HostRuntime, text: &[u8]) -> Result<(), Stop> {
     let mut player = Player::new();
-    let mut rest = text;
-    for at in 0..text.len() {
-        if rest.is_empty() {
-            return Ok(());
-        }
-        let (line, next) = cut(rest, b'\n');
-        rest = next;
-        match read_line(rt.alloc(), line) {
-            Ok(Some(command)) => player.obey(rt, at + 1, line, command)?,
+    for (at, text) in text.split(|byte| *byte == b'\n').enumerate() {
+        let line = Line {
+            number: at + 1,
+            text,
+        };
+        match read_line(rt.alloc(), text) {
+            Ok(Some(command)) => player.obey(rt, line, command)?,
             Ok(None) => {}
-            Err(fault) => return Err(Stop::Line(at + 1, fault)),
+            Err(fault) => return Err(Stop::Line(line.number, fault)),
         }
     }
     Ok(())

@@ -1,3 +1,2 @@
-mod PairSteps
 mod Declaring
 mod Pushed

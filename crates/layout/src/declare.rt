@@ -19,7 +19,8 @@ const MOST_TABLES: usize = 4;
 
 const MOST_COLUMNS: usize = 4;
 
-const HIGHEST_FAMILY: u32 = 3;
+// The highest family of a row, a column or a tag.
+pub const HIGHEST_FAMILY: u32 = 3;
 
 const SLOTS: u32 = 256;
 

@@ -6,7 +6,7 @@ use crate::table::Table;
 use inplace::ArrayVec;
 
 // The plan of a bench. It keeps the rule of pairs and every limit, whatever calls are made on it.
-#[derive(Drop)]
+#[derive(PartialEq, Drop)]
 pub struct Plan {
     pub(crate) vendors: u32,
     pub(crate) tables: ArrayVec<Table, 4>,

@@ -1,4 +1,4 @@
-ghost use Rattle.std.specs.Prelude.{◌≡◌, map, take};
+ghost use Rattle.std.specs.Prelude.{◌≡◌, map, take, slice_index};
 ghost use Rattle.layout.specs.Pairs.{pair_of};
 ghost use Rattle.layout.specs.Tables.{table_of, declared};
 
@@ -7,7 +7,7 @@ use inplace::ArrayVec;
 
 // A declared table: the family of its rows, the families of its columns, and for each vendor the pair of slots that is
 // the vendor's lot.
-#[derive(Clone, Copy)]
+#[derive(Clone, Copy, PartialEq)]
 pub struct Table {
     row: u32,
     columns: ArrayVec<u32, 4>,
@@ -41,6 +41,13 @@ impl Table {
         ensures { result.now ≡ (table_of self.now).columns }
     {
         self.columns.as_slice()
+    }
+
+    // The family of a column; 0 where there is none, as the rules have it.
+    pub fn column(&self, column: usize) -> u32
+        ensures { result ≡ slice_index (table_of self.now).columns column }
+    {
+        self.columns.get_or(column, 0)
     }
 
     // The lots, one for each vendor.

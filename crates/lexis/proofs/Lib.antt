@@ -1,4 +1,3 @@
-pub mod Runs
 pub mod LookUps
 pub mod Packing
 pub mod Values

@@ -1,21 +1,21 @@
--- A loop over a table of codes.
-use Rattle.std.proofs.Common.{◌≡◌, ℕ, ◌+◌, ◌<◌, eqb, List, length, get_or, drop, Some, sym, ap, ◌∙◌}
-use Rattle.std.proofs.lemmas.List.{at_drop_more}
-use Rattle.std.proofs.lemmas.Bool.{eq-eqb, ne_eqb}
-use Rattle.grammar.specs.Spelling.{this_or}
+-- Looking a code up in a table.
+use Rattle.std.proofs.Common.{◌≡◌, ℕ, Bool, true, false, eqb, List, [], ◌∷◌, Some, None, Option, refl, ap, ◌∙◌}
+use denote.Ref.{Bor}
+use Rattle.std.specs.Option.{option_map}
+use Rattle.std.specs.List.{find}
 use Rattle.lexis.specs.declared.keywords.Entry.{Entry}
 use Rattle.lexis.specs.Table.{entry_with}
 
-pub entry_here : (code : ℕ) (table : List Entry) (i : ℕ) (d : Entry) → i < length table → code ≡ (get_or table i d).0
-    → entry_with code (drop i table) ≡ Some (get_or table i d).1
-entry_here code table i d h e =
-    let step : entry_with code (drop i table) ≡ this_or (eqb code (get_or table i d).0) (get_or table i d).1 (entry_with code (drop (i + 1) table))
-    = at_drop_more (entry_with code) table i d h in
-    step ∙ ap (λ b. this_or b (get_or table i d).1 (entry_with code (drop (i + 1) table))) (eq-eqb code (get_or table i d).0 e)
+entry_found : (code : ℕ) (table : List Entry) → option_map (λ e. e.1) (find (λ e. eqb e.0 code) table) ≡ entry_with code table
+entry_found code [] = refl
+entry_found code (e ∷ es) = go (eqb e.0 code) refl (entry_found code es)
+  where
+    go : (t : Bool) → eqb e.0 code ≡ t → option_map (λ x. x.1) (find (λ x. eqb x.0 code) es) ≡ entry_with code es
+        → option_map (λ x. x.1) (find (λ x. eqb x.0 code) (e ∷ es)) ≡ entry_with code (e ∷ es)
+    go true h rest = rw h
+    go false h rest = rw h rest
 
-pub entry_further : (code : ℕ) (table : List Entry) (i : ℕ) (d : Entry) → i < length table → (code ≡ (get_or table i d).0 → ⊥)
-    → entry_with code (drop (i + 1) table) ≡ entry_with code (drop i table)
-entry_further code table i d h e =
-    let step : entry_with code (drop i table) ≡ this_or (eqb code (get_or table i d).0) (get_or table i d).1 (entry_with code (drop (i + 1) table))
-    = at_drop_more (entry_with code) table i d h in
-    sym (step ∙ ap (λ b. this_or b (get_or table i d).1 (entry_with code (drop (i + 1) table))) (ne_eqb code (get_or table i d).0 e))
+pub looked_up : (code : ℕ) (table : List Entry) (o : Option (Bor Entry)) → option_map (λ x. x.now) o ≡ find (λ e. eqb e.0 code) table
+    → option_map (λ x. x.now.1) o ≡ entry_with code table
+looked_up code table None h = ap (option_map (λ e. e.1)) h ∙ entry_found code table
+looked_up code table (Some x) h = ap (option_map (λ e. e.1)) h ∙ entry_found code table

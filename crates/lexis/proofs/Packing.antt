@@ -1,5 +1,5 @@
 -- Packing letters into one number: it fits, and different words have different codes.
-use Rattle.std.proofs.Common.{◌≡◌, ℕ, ◌+◌, ◌-◌, ◌*◌, ◌^◌, ◌<◌, ◌≤◌, Bool, eqb, List, [], ◌∷◌, ◌++◌, length, take, drop, sym, refl, ap, ◌∙◌, ⊎_elim, pow-suc, add-one, arith, length-drop, take-append-drop}
+use Rattle.std.proofs.Common.{◌≡◌, ℕ, ◌+◌, ◌-◌, ◌*◌, ◌^◌, ◌<◌, ◌≤◌, Bool, eqb, List, [], ◌∷◌, ◌++◌, length, take, drop, sym, refl, ap, ◌∙◌, ⊎_elim, arith, length-drop, take-append-drop}
 use native.Mathlib.Nat.{pow-le-pow_right}
 use Rattle.std.specs.Int.Digits.{number_from_digits, number_from_digits_after}
 use Rattle.std.specs.List.{AllByRecursion}
@@ -15,12 +15,9 @@ use Rattle.grammar.specs.Tokens.{Letter}
 use Rattle.grammar.proofs.Spelled.{letters_are_letters}
 use Rattle.lexis.specs.Codes.{packed, keyword_with}
 
--- one byte more
-pub packed_more : (code b i : ℕ) → code < 256 ^ i → b < 256 → code * 256 + b < 256 ^ (i + 1)
-packed_more code b i h k = rw (add-one, pow-suc) (omega arith)
-
-pub packed_fits : (code b i : ℕ) → code < 256 ^ i → b < 256 → i < 8 → code * 256 + b < 2 ^ 64
-packed_fits code b i h k l =
+-- one byte more fits
+pub shift_fits : (code i : ℕ) → code < 256 ^ i → i < 8 → code * 256 < 2 ^ 64
+shift_fits code i h l =
     let room : 256 ^ i ≤ 256 ^ 7 = pow-le-pow_right {n = 256} (omega arith) {i = i} {j = 7} (omega arith) in
     omega arith
 

@@ -3,7 +3,7 @@ use Rattle.std.proofs.Common.{◌≡◌, ℕ, ◌+◌, ◌-◌, ◌*◌, ◌^◌
 use Rattle.std.specs.Str.Parse.{digits_value_after}
 use Rattle.std.specs.Char.{digit_value}
 use Rattle.std.proofs.lemmas.List.{at_drop_more}
-use Rattle.std.proofs.lemmas.Bool.{cond-true, cond-false, le-leb, lt-leb}
+use Rattle.std.proofs.lemmas.Bool.{cond-true, le-leb}
 use Rattle.std.proofs.lemmas.Bool.Decides.{nat_tests}
 use Rattle.grammar.specs.Tokens.{Digit}
 use Rattle.lexis.specs.Values.{fitting}
@@ -26,9 +26,10 @@ value_grows : (v : ℕ) (ds : List ℕ) → v ≤ digits_value_after 10 v ds
 value_grows v [] = omega arith
 value_grows v (d ∷ ds) = omega (arith, value_grows (v * 10 + digit_value d) ds)
 
-pub too_large : (v whole : ℕ) (rest : List ℕ) → digits_value_after 10 v rest ≡ whole → 2 ^ 32 ≤ v → None ≡ fitting whole
-too_large v whole rest e h =
-    sym (cond-true (leb (2 ^ 32) whole) None (Some whole) (le-leb (2 ^ 32) whole (omega (arith, value_grows v rest))))
-
-pub small_enough : (v whole : ℕ) → v ≡ whole → v < 2 ^ 32 → Some v ≡ fitting whole
-small_enough v whole e h = ap Some e ∙ sym (cond-false (leb (2 ^ 32) whole) None (Some whole) (lt-leb (2 ^ 32) whole (omega arith)))
+-- the next digit makes the value pass 32 bits
+pub too_large : (v whole : ℕ) (ds : List ℕ) (i : ℕ) → i < length ds → Digit (get_or ds i 0) → digits_value_after 10 v (drop i ds) ≡ whole
+    → 2 ^ 32 ≤ v * 10 + (get_or ds i 0 - 48) → None ≡ fitting whole
+too_large v whole ds i h d e over =
+    let grows = value_grows (v * 10 + (get_or ds i 0 - 48)) (drop (i + 1) ds) in
+    let large : 2 ^ 32 ≤ whole = omega (arith, value_step v ds i h d) in
+    sym (cond-true (leb (2 ^ 32) whole) None (Some whole) (le-leb (2 ^ 32) whole large))

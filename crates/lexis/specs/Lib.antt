@@ -1,4 +1,3 @@
-pub mod Classes
 pub mod Codes
 pub mod Table
 pub mod Meaning

@@ -7,4 +7,4 @@ use Rattle.lexis.specs.declared.keywords.Entry.{Entry}
 -- The keyword of the first entry with this code.
 abbrev pub entry_with : ℕ → List Entry → Option Keyword
 entry_with code [] = None
-entry_with code (e ∷ es) = this_or (code == e.0) e.1 (entry_with code es)
+entry_with code (e ∷ es) = this_or (e.0 == code) e.1 (entry_with code es)

@@ -1,34 +1,31 @@
-ghost use Rattle.std.specs.Prelude.{◌≡◌, ◌+◌, drop};
+// The kinds of bytes that come in runs.
+ghost use Rattle.std.specs.Prelude.{◌≡◌, ℕ, ◌+◌, Bool, drop};
+ghost use Rattle.std.specs.Fn.{FnReturnsAt};
 ghost use Rattle.std.specs.List.{prefix_len};
-ghost use Rattle.lexis.specs.Classes.{member};
+ghost use Rattle.grammar.specs.Tokens.{blank, letter, digit};
 
-// A kind of byte that comes in runs.
-#[derive(Clone, Copy)]
-pub(crate) enum Class {
-    Blank,
-    Letter,
-    Digit,
+pub(crate) fn is_blank(byte: &u8) -> bool
+    ensures { result ≡ blank byte.now }
+{
+    matches!(*byte, b' ' | b'\n')
 }
 
-impl Class {
-    pub(crate) fn has(self, byte: u8) -> bool
-        ensures { result ≡ member self byte }
-    {
-        match self {
-            Class::Blank => byte == b' ' || byte == b'\n',
-            Class::Letter => byte >= b'a' && byte <= b'z',
-            Class::Digit => byte >= b'0' && byte <= b'9',
-        }
-    }
+pub(crate) fn is_letter(byte: &u8) -> bool
+    ensures { result ≡ letter byte.now }
+{
+    matches!(*byte, b'a'..=b'z')
+}
+
+pub(crate) fn is_digit(byte: &u8) -> bool
+    ensures { result ≡ digit byte.now }
+{
+    matches!(*byte, b'0'..=b'9')
 }
 
 // Where the longest run of such bytes ends that stands at `from`.
-pub(crate) fn run_end(text: &[u8], from: usize, class: Class) -> usize
-    ensures { result ≡ from + prefix_len (member class) (drop from text.now) }
+pub(crate) fn run_end<P: Fn(&u8) -> bool>(text: &[u8], from: usize, such: P) -> usize
+    requires callable { (f : _) (byte : _) → P.pre f byte }
+    ensures { (holds : ℕ → Bool) → ((b : ℕ) (r : Bool) → FnReturnsAt P.Fn such b r → r ≡ holds b) → result ≡ from + prefix_len holds (drop from text.now) }
 {
-    let mut at = from;
-    while at < text.len() && class.has(text[at]) {
-        at += 1;
-    }
-    at
+    from + text.iter().skip(from).copied().take_while(such).count()
 }

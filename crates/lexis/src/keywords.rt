@@ -8,6 +8,7 @@ ghost use Rattle.lexis.specs.Table.{entry_with};
 use grammar::Keyword;
 
 // A keyword behind its code: its letters packed, a byte each, the first the highest.
+// A constant table of packed codes is a form of the project, so the words are not matched as text.
 #[derive(Clone, Copy)]
 struct Entry(u64, Keyword);
 
@@ -35,12 +36,10 @@ const TABLE: [Entry; 17] = [
 fn look_up(table: &[Entry], code: u64) -> Option<Keyword>
     ensures { result ≡ entry_with code table.now }
 {
-    for Entry(own, keyword) in table {
-        if code == *own {
-            return Some(*keyword);
-        }
-    }
-    None
+    table
+        .iter()
+        .find(|entry| entry.0 == code)
+        .map(|entry| entry.1)
 }
 
 // The keyword of this code, if there is one.
@@ -63,6 +62,7 @@ fn pack(word: &[u8]) -> u64
 }
 
 // The keyword that is written so, if there is one.
+#[tactic(auto, using(crate::proofs::Packing::with_code_is_keyword))]
 pub(crate) fn keyword_of(word: &[u8]) -> Option<Keyword>
     requires short { length word.now ≤ 8 }
     requires letters { AllByRecursion Letter word.now }

@@ -9,4 +9,4 @@ pub mod reader;
 pub mod token;
 
 pub use reader::Reader;
-pub use token::{Found, Token};
+pub use token::{Found, Token, Wanted};

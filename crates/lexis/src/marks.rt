@@ -3,7 +3,7 @@ ghost use Rattle.grammar.specs.Spelling.{mark_of};
 
 use grammar::Mark;
 
-// The mark that this byte is, if it is one.
+// The mark that this byte is, if it is one. Taken as a char, as the project's forms want it.
 pub(crate) fn mark_of(byte: u8) -> Option<Mark>
     ensures { result ≡ mark_of byte }
 {

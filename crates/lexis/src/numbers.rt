@@ -11,17 +11,15 @@ pub(crate) fn has_leading_zero(digits: &[u8]) -> bool
     digits.len() > 1 && digits[0] == b'0'
 }
 
-// The number that the digits write, where it fits 32 bits.
+// The number that the digits write, where it fits 32 bits. Reading these known digits by `words::number` would be no
+// plainer: it looks for each digit again, refuses an empty word, and counts to 64 bits.
 pub(crate) fn value_of(digits: &[u8]) -> Option<u32>
     requires { AllByRecursion Digit digits.now }
     ensures { result ≡ fitting (digits_value 10 digits.now) }
 {
-    let mut sum: u64 = 0;
+    let mut sum: u32 = 0;
     for digit in digits {
-        sum = sum * 10 + u64::from(*digit - b'0');
-        if sum > u32::MAX as u64 {
-            return None;
-        }
+        sum = sum.checked_mul(10)?.checked_add(u32::from(*digit - b'0'))?;
     }
-    Some(sum as u32)
+    Some(sum)
 }

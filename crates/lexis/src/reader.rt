@@ -1,14 +1,14 @@
-ghost use Rattle.std.specs.Prelude.{◌≡◌, ◌<◌, ◌≤◌, length, drop, slice_index};
+ghost use Rattle.std.specs.Prelude.{◌≡◌, ◌<◌, ◌≤◌, ◌^◌, ◌-◌, length, drop};
 ghost use Rattle.grammar.specs.Spelling.{mark_of};
-ghost use Rattle.grammar.specs.Tokens.{letter, digit, run, read_word, read_number, read_mark, token_at, is_mark, is_keyword, next_is, goes_on};
+ghost use Rattle.grammar.specs.Tokens.{letter, digit, run, read_word, read_number, read_mark, token_at, next_is, goes_on};
 ghost use Rattle.lexis.specs.Meaning.{reading, text_of, place_of};
 
-use crate::classes::{Class, run_end};
+use crate::classes::{is_blank, is_digit, is_letter, run_end};
 use crate::keywords::keyword_of;
 use crate::marks::mark_of;
 use crate::numbers::{has_leading_zero, value_of};
-use crate::token::{Found, Token};
-use grammar::{Keyword, Mark, Refusal};
+use crate::token::{Found, Token, Wanted};
+use grammar::Refusal;
 
 // The letters of a name, at most.
 const NAME_LENGTH: usize = 8;
@@ -41,21 +41,17 @@ impl<'a> Reader<'a> {
         ensures { reading result ≡ token_at (text_of self.now) (place_of self.now) }
     {
         let text = self.text;
-        let place = run_end(text, self.place, Class::Blank);
-        if place >= text.len() {
-            return Ok(Found {
+        let place = run_end(text, self.place, is_blank);
+        match text.get(place) {
+            None => Ok(Found {
                 token: Token::End,
                 place,
                 after: place,
-            });
+            }),
+            Some(byte) if is_letter(byte) => read_word(text, place),
+            Some(byte) if is_digit(byte) => read_number(text, place),
+            Some(byte) => read_mark(*byte, place),
         }
-        if Class::Letter.has(text[place]) {
-            return read_word(text, place);
-        }
-        if Class::Digit.has(text[place]) {
-            return read_number(text, place);
-        }
-        read_mark(text, place)
     }
 
     // Takes the next token. Where none can be read, the place stays.
@@ -69,22 +65,12 @@ impl<'a> Reader<'a> {
         Ok(found)
     }
 
-    // Whether the next token is this mark.
-    pub fn next_is(&self, mark: Mark) -> bool
-        ensures { result ≡ next_is (text_of self.now) (place_of self.now) (is_mark mark) }
+    // Whether the next token is this mark, or this keyword.
+    pub fn next_is<W: Wanted>(&self, wanted: W) -> bool
+        ensures { result ≡ next_is (text_of self.now) (place_of self.now) (W.wants wanted) }
     {
         match self.peek() {
-            Ok(found) => found.token.is_mark(mark),
-            Err(_) => false,
-        }
-    }
-
-    // Whether the next token is this keyword.
-    pub fn next_is_keyword(&self, keyword: Keyword) -> bool
-        ensures { result ≡ next_is (text_of self.now) (place_of self.now) (is_keyword keyword) }
-    {
-        match self.peek() {
-            Ok(found) => found.token.is_keyword(keyword),
+            Ok(found) => found.token.is(wanted),
             Err(_) => false,
         }
     }
@@ -95,7 +81,7 @@ fn read_word<'a>(text: &'a [u8], place: usize) -> Result<Found<'a>, Refusal>
     requires { place ≤ length text.now }
     ensures { reading result ≡ read_word place (run letter (drop place text.now)) }
 {
-    let after = run_end(text, place, Class::Letter);
+    let after = run_end(text, place, is_letter);
     let letters = &text[place..after];
     if letters.len() > NAME_LENGTH {
         return Err(Refusal::NoToken(place));
@@ -116,32 +102,28 @@ fn read_number<'a>(text: &'a [u8], place: usize) -> Result<Found<'a>, Refusal>
     requires { place ≤ length text.now }
     ensures { reading result ≡ read_number place (run digit (drop place text.now)) }
 {
-    let after = run_end(text, place, Class::Digit);
+    let after = run_end(text, place, is_digit);
     let digits = &text[place..after];
     if has_leading_zero(digits) {
         return Err(Refusal::NoToken(place));
     }
-    match value_of(digits) {
-        Some(value) => Ok(Found {
-            token: Token::Number { digits, value },
-            place,
-            after,
-        }),
-        None => Err(Refusal::NoToken(place)),
-    }
+    let value = value_of(digits).ok_or(Refusal::NoToken(place))?;
+    Ok(Found {
+        token: Token::Number { digits, value },
+        place,
+        after,
+    })
 }
 
-// The mark that stands at `place`.
-fn read_mark<'a>(text: &'a [u8], place: usize) -> Result<Found<'a>, Refusal>
-    requires { place < length text.now }
-    ensures { reading result ≡ read_mark place (mark_of (slice_index text.now place)) }
+// The mark that stands at `place`, as this byte.
+fn read_mark<'a>(byte: u8, place: usize) -> Result<Found<'a>, Refusal>
+    requires { place < 2 ^ 64 - 1 }
+    ensures { reading result ≡ read_mark place (mark_of byte) }
 {
-    match mark_of(text[place]) {
-        Some(mark) => Ok(Found {
-            token: Token::Mark(mark),
-            place,
-            after: place + 1,
-        }),
-        None => Err(Refusal::NoToken(place)),
-    }
+    let mark = mark_of(byte).ok_or(Refusal::NoToken(place))?;
+    Ok(Found {
+        token: Token::Mark(mark),
+        place,
+        after: place + 1,
+    })
 }

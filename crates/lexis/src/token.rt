@@ -1,5 +1,6 @@
-ghost use Rattle.std.specs.Prelude.{◌≡◌};
+ghost use Rattle.std.specs.Prelude.{◌≡◌, Bool};
 ghost use Rattle.grammar.specs.Tokens.{is_mark, is_keyword};
+ghost use Rattle.grammar.specs.Tokens as rule;
 ghost use Rattle.lexis.specs.Meaning.{meaning};
 
 use grammar::{Keyword, Mark};
@@ -16,22 +17,36 @@ pub enum Token<'a> {
 }
 
 impl Token<'_> {
-    pub fn is_mark(&self, mark: Mark) -> bool
-        ensures { result ≡ is_mark mark (meaning self.now) }
+    // Whether it is this mark, or this keyword.
+    pub fn is<W: Wanted>(&self, wanted: W) -> bool
+        ensures { result ≡ W.wants wanted (meaning self.now) }
     {
-        match self {
-            Token::Mark(this) => mark == *this,
-            _ => false,
-        }
+        wanted.is(self)
     }
+}
 
-    pub fn is_keyword(&self, keyword: Keyword) -> bool
-        ensures { result ≡ is_keyword keyword (meaning self.now) }
-    {
-        match self {
-            Token::Keyword(this) => keyword == *this,
-            _ => false,
-        }
+// What a token may be asked to be: a mark or a keyword.
+pub trait Wanted: Copy {
+    // Which tokens of the grammar are it.
+    ghost wants: { Self → rule.Token → Bool };
+
+    fn is(self, token: &Token<'_>) -> bool
+        ensures { result ≡ wants self (meaning token.now) };
+}
+
+impl Wanted for Mark {
+    ghost wants = { is_mark };
+
+    fn is(self, token: &Token<'_>) -> bool {
+        matches!(token, Token::Mark(mark) if *mark == self)
+    }
+}
+
+impl Wanted for Keyword {
+    ghost wants = { is_keyword };
+
+    fn is(self, token: &Token<'_>) -> bool {
+        matches!(token, Token::Keyword(keyword) if *keyword == self)
     }
 }
 

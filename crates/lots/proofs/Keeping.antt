@@ -1,36 +1,43 @@
 -- What the lots of a store keep, and what its plan says of them.
-use Rattle.std.proofs.Common.{◌≡◌, ℕ, zero, suc, ◌≤◌, cond, eqb, ltb, List, [], ◌∷◌, map, length, get_or, take, set, refl, ap, ◌∙◌, arith, length-set}
+use Rattle.std.proofs.Common.{◌≡◌, ℕ, zero, suc, ◌≤◌, cond, eqb, ltb, List, [], ◌∷◌, map, length, get_or, take, drop, set, ap, ◌∙◌, arith, length-set, length-take}
+use lib.ListN.{length-map, get_or-map}
+use Rattle.std.proofs.lemmas.List.{length-reverse}
 use Rattle.std.proofs.lemmas.Bool.{cond_both, cond-true, lt-ltb}
 use Rattle.std.proofs.ByRecursion.{all_kept_by, All-map, All-weaker}
+use Rattle.inplace.specs.Held.{held}
 use Rattle.rules.specs.Pairs.{Pair, pair_at}
 use Rattle.rules.specs.Plans.{Plan, Table}
 use Rattle.rules.specs.Lots.{Lot, room, put_lot, enter_row}
+use Rattle.lots.specs.declared.lot.Lot as coded
 use Rattle.lots.specs.declared.table.Table as stored
 use Rattle.lots.specs.declared.store.Store.{Store}
+use Rattle.lots.specs.Rows.{Row}
+use Rattle.lots.specs.Lots.{span_of, lot_in, lot_at}
 use Rattle.lots.specs.Tables.{lots_in, pairs_in}
 use Rattle.lots.specs.Stores.{lots_of, pairs_of, lots_at, plan_pairs, room_in, has_lot}
 use Rattle.lots.specs.Promises.{RowsFit, Wide, WidthsStay, PlanLotsHold}
-use Rattle.lots.proofs.SlotReads.{rows_in_room}
 use Rattle.lots.proofs.Planned.{lots_of_vendors}
 
--- a list read at a place, and each of it changed
-at_map : {X Y : Type 0} (f : X → Y) (xs : List X) (i : ℕ) (d : X) → get_or (map f xs) i (f d) ≡ f (get_or xs i d)
-at_map f [] i d = refl
-at_map f (x ∷ xs) zero d = refl
-at_map f (x ∷ xs) (suc i) d = at_map f xs i d
+-- no lot has more rows than slots
+fit_in : (rows : List Row) (ls : List coded.Lot) (v : ℕ) → length (lot_at (map (lot_in rows) ls) v).rows ≤ (pair_at (map span_of ls) v).length
+fit_in rows [] v = omega arith
+fit_in rows (l ∷ ls) zero =
+    let size : length (map held (take l.count (drop l.offset rows))) ≤ l.count = simp (length-map, length-take) (omega arith) in
+    omega (arith, size, length-reverse (map held (take l.count (drop l.offset rows))), l.fits)
+fit_in rows (l ∷ ls) (suc v) = fit_in rows ls v
 
 fit : (ss : List stored.Table) (t v : ℕ) → length (lots_at (map lots_in ss) t v).rows ≤ room_in (map pairs_in ss) t v
 fit [] t v = omega arith
-fit (s ∷ ss) zero v = rows_in_room s v
+fit (s ∷ ss) zero v = fit_in s.slots (held s.lots) v
 fit (s ∷ ss) (suc t) v = fit ss t v
 
 pub rows_fit_the_pairs : (s : Store) (t v : ℕ) → length (lots_of s t v).rows ≤ room_in (pairs_of s) t v
 unfolding lots_of pairs_of
-rows_fit_the_pairs s t v = fit (take s.count s.tables) t v
+rows_fit_the_pairs s t v = fit (held s.tables) t v
 
 pub rooms_of_the_plan : (plan : Plan) (t v : ℕ) → room_in (plan_pairs plan) t v ≡ room plan t v
 rooms_of_the_plan plan t v =
-    ap (λ (ps : List Pair). (pair_at ps v).length) (at_map (λ (table : Table). table.lots) plan.tables t (record { row = 0; columns = []; lots = [] }))
+    ap (λ (ps : List Pair). (pair_at ps v).length) (get_or-map (λ (table : Table). table.lots) plan.tables t (record { row = 0; columns = []; lots = [] }))
 
 pub rows_fit : RowsFit
 rows_fit store plan e t v =
@@ -55,7 +62,7 @@ plan_lots plan t v = record {
   enters = λ is_sound low small row lots.
       let lists = plan_pairs plan in
       let many : length (get_or lists t []) ≡ plan.vendors =
-      ap length (at_map (λ (table : Table). table.lots) plan.tables t (record { row = 0; columns = []; lots = [] })) ∙ lots_of_vendors plan is_sound t _ low in
+      ap length (get_or-map (λ (table : Table). table.lots) plan.tables t (record { row = 0; columns = []; lots = [] })) ∙ lots_of_vendors plan is_sound t _ low in
       cond-true (has_lot lists t v) _ _ (lt-ltb v (length (get_or lists t [])) (omega (arith, many)))
       ∙ ap (λ n. put_lot lots t v (enter_row n row (lots t v))) (rooms_of_the_plan plan t v);
 }

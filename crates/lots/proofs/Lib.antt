@@ -1,7 +1,6 @@
 mod RowLists
-mod LotParts
+mod OneLot
 mod SlotWrites
-mod SlotReads
 mod Opened
 mod Putting
 mod StoreSteps

@@ -1,8 +1,8 @@
 -- The store of a sound plan.
-use Rattle.std.proofs.Common.{◌≡◌, ℕ, zero, suc, ◌+◌, ◌<◌, ◌≤◌, true, not, ◌&&◌, eqb, leb, List, [], ◌∷◌, ◌++◌, map, length, get_or, take, set, sym, refl, ap, ◌∙◌, subst, arith}
+use Rattle.std.proofs.Common.{◌≡◌, ℕ, zero, suc, ◌<◌, ◌≤◌, true, not, ◌&&◌, eqb, leb, List, [], ◌∷◌, ◌++◌, map, length, get_or, take, sym, refl, ap, ◌∙◌, subst, arith}
 use lib.ListN.{length-map}
 use Rattle.std.proofs.lemmas.Bool.{and_parts, leb-true, eqb-true}
-use Rattle.std.proofs.lemmas.List.{take_more_set, map_push, map_more, get_or-map, take_all}
+use Rattle.std.proofs.lemmas.List.{map_push, get_or-map, take_all}
 use Rattle.rules.specs.Pairs.{Pair, laid}
 use Rattle.rules.specs.Plans.{Plan, Table, sound, sound_table, sound_tables, families_above}
 use Rattle.rules.specs.Lots.{Lot, no_rows}
@@ -10,7 +10,7 @@ use Rattle.layout.specs.declared.table.Table as coded
 use Rattle.layout.specs.Tables.{table_of}
 use Rattle.lots.specs.declared.table.Table as stored
 use Rattle.lots.specs.Lots.{lot_at}
-use Rattle.lots.specs.Tables.{lots_in, pairs_in}
+use Rattle.lots.specs.Tables.{lots_in}
 use Rattle.lots.specs.Stores.{lots_at, plan_pairs}
 
 sound_at : (vendors : ℕ) (ts : List Table) (i : ℕ) (d : Table) → sound_tables vendors ts ≡ true → i < length ts → sound_table vendors (get_or ts i d) ≡ true
@@ -72,23 +72,12 @@ none_pushed [] l h k (suc t) v = refl
 none_pushed (x ∷ xs) l h k zero v = h 0 v
 none_pushed (x ∷ xs) l h k (suc t) v = none_pushed xs l (λ u w. h (suc u) w) k t v
 
-module _ (tables : List stored.Table) (n : ℕ) (new : stored.Table) (low : n < length tables) where
-  pushed : {Y : Type 0} (f : stored.Table → Y) → map f (take (n + 1) (set tables n new)) ≡ map f (take n tables) ++ f new ∷ []
-  pushed f = ap (map f) (take_more_set tables n new low) ∙ map_push f (take n tables) new
-
-  pub pairs_more : (ts : List coded.Table) (i : ℕ) (x : coded.Table) → i < length ts → x ≡ get_or ts i x
-      → map pairs_in (take n tables) ≡ map (λ t. (table_of t).lots) (take i ts) → pairs_in new ≡ (table_of x).lots
-      → map pairs_in (take (n + 1) (set tables n new)) ≡ map (λ t. (table_of t).lots) (take (i + 1) ts)
-  pairs_more ts i x l e before here =
-      pushed pairs_in ∙ ap (λ (ps : List (List Pair)). ps ++ pairs_in new ∷ []) before
-      ∙ ap (λ (p : List Pair). map (λ t. (table_of t).lots) (take i ts) ++ p ∷ []) (here ∙ ap (λ (t : coded.Table). (table_of t).lots) e)
-      ∙ sym (map_more (λ t. (table_of t).lots) ts i x l)
-
-  pub none_more : {X : Type 0} (xs : List X) → ((t v : ℕ) → lots_at (map lots_in (take n tables)) t v ≡ no_rows) → lots_in new ≡ map (λ _. no_rows) xs
-      → (t v : ℕ) → lots_at (map lots_in (take (n + 1) (set tables n new))) t v ≡ no_rows
-  none_more xs before here t v =
-      ap (λ (ls : List (List Lot)). lots_at ls t v) (pushed lots_in)
-      ∙ none_pushed (map lots_in (take n tables)) (lots_in new) before (λ w. ap (λ (l : List Lot). lot_at l w) here ∙ none_in xs w) t v
+-- One more table, whose lots have no row.
+pub none_more : {X : Type 0} (was is : List stored.Table) (new : stored.Table) (xs : List X) → is ≡ was ++ new ∷ []
+    → ((t v : ℕ) → lots_at (map lots_in was) t v ≡ no_rows) → lots_in new ≡ map (λ _. no_rows) xs → (t v : ℕ) → lots_at (map lots_in is) t v ≡ no_rows
+none_more was is new xs grown before here t v =
+    ap (λ (ls : List (List Lot)). lots_at ls t v) (ap (map lots_in) grown ∙ map_push lots_in was new)
+    ∙ none_pushed (map lots_in was) (lots_in new) before (λ w. ap (λ (l : List Lot). lot_at l w) here ∙ none_in xs w) t v
 
 pub pairs_all : (plan : Plan) (ts : List coded.Table) (i : ℕ) → map table_of ts ≡ plan.tables → length ts ≤ i → map (λ t. (table_of t).lots) (take i ts) ≡ plan_pairs plan
 pairs_all plan ts i is l =

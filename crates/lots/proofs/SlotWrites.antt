@@ -1,59 +1,77 @@
--- What a write to one lot makes of the slots of its table.
-use Rattle.std.proofs.Common.{◌≡◌, ℕ, ◌+◌, ◌-◌, ◌<◌, ◌≤◌, min, true, ltb, List, ◌∷◌, map, reverse, length, get_or, take, drop, set, sym, refl, ap, ◌∙◌, subst, arith, length-append, length-drop, length-take}
+-- What a write to one lot makes of its table.
+use Rattle.std.proofs.Common.{◌≡◌, ℕ, ◌+◌, ◌-◌, ◌<◌, ◌≤◌, min, true, ltb, List, [], ◌∷◌, ◌++◌, map, reverse, length, get_or, take, drop, set, sym, refl, ap, ◌∙◌, subst, arith, length-append, length-drop, length-take, take-append-drop}
+use borrow.Rule.Slice.PartMut.{put_mid}
 use lib.ListN.{length-map}
 use Rattle.std.proofs.lemmas.Bool.{lt-ltb, le-ltb, cond-true, cond-false}
-use Rattle.std.proofs.lemmas.List.{map-set, get_or-map, get_or-take, take-take, length-reverse, set_past, set-get_or}
-use Rattle.rules.specs.Pairs.{Pair, pair_at}
-use Rattle.rules.specs.Lots.{Lot, no_rows, enter_row, last_word}
-use Rattle.lots.specs.declared.row.Row.{Row}
+use Rattle.std.proofs.lemmas.List.{get_or-map, set-get_or, take_all, take-take, take-set-le, take_more_set, drop-set-lt, drop-set-add, set-append_left, set-append_right, length-reverse, map_push, reverse-append}
+use Rattle.std.proofs.lemmas.Slice.{take-put_mid_below, drop-put_mid, between-put_mid}
+use Rattle.inplace.specs.Held.{held}
+use Rattle.rules.specs.Pairs.{Pair, laid, pair_at}
+use Rattle.rules.specs.Lots.{no_rows, enter_row, last_word}
 use Rattle.lots.specs.declared.lot.Lot as coded
 use Rattle.lots.specs.declared.table.Table as stored
-use Rattle.lots.specs.Rows.{row_of, newest}
-use Rattle.lots.specs.Lots.{span_of, lot_in, lot_at, orderly, OnlyIn}
-use Rattle.lots.specs.Tables.{lots_in, pairs_in, LotOf}
-use Rattle.lots.proofs.RowLists.{take_of_set}
-use Rattle.lots.proofs.LotParts.{part_of, with_part, orderly_set, spans_stay, written, outside_before, outside_behind}
-
--- Where there is no such vendor, nothing is set.
-pub no_lot : (s : stored.Table) (v : ℕ) (x : Lot) → s.vendors ≤ v → lots_in s ≡ set (lots_in s) v x
-no_lot s v x h = sym (set_past (lots_in s) v x (simp (length-map, length-take) (omega arith)))
+use Rattle.lots.specs.Rows.{Row, newest}
+use Rattle.lots.specs.Lots.{span_of, lot_in, lot_at, OnlyIn}
+use Rattle.lots.specs.Tables.{lots_in, pairs_in}
+use Rattle.lots.proofs.OneLot.{pair_is, spans_stay, written}
 
 pub nothing_written : (p : Pair) (rows : List Row) → OnlyIn p rows rows
 nothing_written p rows = record { before = refl; behind = refl }
 
-module _ (s : stored.Table) (v : ℕ) (l : coded.Lot) (k : LotOf s v l) where
-  in_use : v < length (take s.vendors s.lots)
-  in_use = let every : length s.lots ≡ 32 = s.every in let few = s.few in simp length-take (omega (arith, k.within))
+-- The rows of a lot were lent and came back as `part`: what is known of the slots before and after.
+pub record Lent (was is : List Row) (l : coded.Lot) (lent part : List Row) : Type 0 where
+  pub whole : length is ≡ 256
+  pub only : OnlyIn (span_of l) was is
+  pub few : length lent ≡ l.count
+  pub before : newest lent ≡ (lot_in was l).rows
+  pub after : (n : ℕ) → n ≤ l.count → newest (take n (drop l.offset is)) ≡ newest (take n part)
+  pub all : newest (take l.count (drop l.offset is)) ≡ newest part
 
-  is_use : l ≡ get_or (take s.vendors s.lots) v l
-  is_use = k.is ∙ sym (get_or-take s.vendors s.lots v l k.within)
+-- One slot of a lent part is written.
+pub put_set : {X : Type 0} (a k : ℕ) (xs : List X) (i : ℕ) (x : X) → i < k → a + k ≤ length xs → put_mid a k xs (set (take k (drop a xs)) i x) ≡ set xs (a + i) x
+put_set a k xs i x low high =
+    let mid = take k (drop a xs) in
+    let behind = drop k (drop a xs) in
+    let whole : take a xs ++ (mid ++ behind) ≡ xs = ap (λ ys. take a xs ++ ys) (take-append-drop k (drop a xs)) ∙ take-append-drop a xs in
+    let front : length (take a xs) ≡ a = simp length-take (omega arith) in
+    let inside : i < length mid = simp (length-take, length-drop) (omega arith) in
+    let place : i ≡ a + i - a = omega arith in
+    ap (λ ys. take a xs ++ ys) (sym (set-append_left mid behind i x inside) ∙ ap (λ n. set (mid ++ behind) n x) place)
+    ∙ sym (set-append_right (take a xs) (mid ++ behind) a (a + i) x front (omega arith))
+    ∙ ap (λ ys. set ys (a + i) x) whole
 
+-- A lot of a table.
+module _ (s : stored.Table) (v : ℕ) (l : coded.Lot) (low : v < length (held s.lots)) (at : l ≡ get_or (held s.lots) v l) where
   pub pair_here : pair_at (pairs_in s) v ≡ span_of l
-  pair_here = get_or-map span_of (take s.vendors s.lots) v l (record { offset = 0; length = 0 }) in_use ∙ ap span_of (sym is_use)
+  pair_here = pair_is (held s.lots) s.kept v l low ∙ ap span_of (sym at)
 
   pub lot_here : lot_at (lots_in s) v ≡ lot_in s.slots l
-  lot_here = get_or-map (lot_in s.slots) (take s.vendors s.lots) v l no_rows in_use ∙ ap (lot_in s.slots) (sym is_use)
+  lot_here = get_or-map (lot_in s.slots) (held s.lots) v l no_rows low ∙ ap (lot_in s.slots) (sym at)
 
   -- a lot has as many rows as it counts
   pub count_here : length (lot_in s.slots l).rows ≡ l.count
   count_here =
       let whole : length s.slots ≡ 256 = s.whole in
-      length-reverse (map row_of (take l.count (drop l.offset s.slots)))
-      ∙ simp (length-map, length-take, length-drop) (omega (arith, k.fits, k.held))
+      length-reverse (map held (take l.count (drop l.offset s.slots)))
+      ∙ simp (length-map, length-take, length-drop) (omega (arith, l.inside, l.fits))
 
-  pub kept_with : (new : coded.Lot) → span_of new ≡ span_of l → new.count ≤ new.length → orderly (take s.vendors (set s.lots v new)) ≡ true
-  kept_with new e few =
-      ap orderly (take_of_set s.vendors s.lots v new)
-      ∙ orderly_set (take s.vendors s.lots) s.kept v new l in_use (e ∙ ap span_of is_use) few
+  pub pairs_with : (new : coded.Lot) → span_of new ≡ span_of l → map span_of (set (held s.lots) v new) ≡ pairs_in s
+  pairs_with new e = spans_stay (held s.lots) s.kept v new l low (e ∙ ap span_of at)
 
-  pub pairs_with : (new : coded.Lot) → span_of new ≡ span_of l → map span_of (take s.vendors (set s.lots v new)) ≡ pairs_in s
-  pairs_with new e =
-      ap (map span_of) (take_of_set s.vendors s.lots v new)
-      ∙ spans_stay (take s.vendors s.lots) s.kept v new l in_use (e ∙ ap span_of is_use)
+  pub kept_with : (new : coded.Lot) → span_of new ≡ span_of l → laid 0 256 (map span_of (set (held s.lots) v new)) ≡ true
+  kept_with new e = ap (laid 0 256) (pairs_with new e) ∙ s.kept
 
-  -- only the lot's own record changes
-  pub lots_with : (new : coded.Lot) → map (lot_in s.slots) (take s.vendors (set s.lots v new)) ≡ set (lots_in s) v (lot_in s.slots new)
-  lots_with new = ap (map (lot_in s.slots)) (take_of_set s.vendors s.lots v new) ∙ map-set (lot_in s.slots) (take s.vendors s.lots) v new
+  pub lots_with : (is : List Row) (new : coded.Lot) → OnlyIn (span_of l) s.slots is
+      → map (lot_in is) (set (held s.lots) v new) ≡ set (lots_in s) v (lot_in is new)
+  lots_with is new only = written (held s.lots) s.kept s.slots is v l low at only new
+
+  -- the lot's own record stays
+  pub lots_rewritten : (is : List Row) → OnlyIn (span_of l) s.slots is → map (lot_in is) (held s.lots) ≡ set (lots_in s) v (lot_in is l)
+  lots_rewritten is only =
+      ap (map (lot_in is)) (sym (set-get_or (held s.lots) v l) ∙ ap (set (held s.lots) v) (sym at)) ∙ lots_with is l only
+
+  pub outside : (is : List Row) → OnlyIn (span_of l) s.slots is → OnlyIn (pair_at (pairs_in s) v) s.slots is
+  outside is only = subst (λ (p : Pair). OnlyIn p s.slots is) (sym pair_here) only
 
   pub full : (row : List ℕ) → l.length ≤ l.count
       → enter_row (pair_at (pairs_in s) v).length row (lot_at (lots_in s) v) ≡ record { rows = (lot_in s.slots l).rows; lost = min (l.lost + 1) last_word }
@@ -67,37 +85,61 @@ module _ (s : stored.Table) (v : ℕ) (l : coded.Lot) (k : LotOf s v l) where
       ap (λ (p : Pair). enter_row p.length row (lot_at (lots_in s) v)) pair_here ∙ ap (enter_row l.length row) lot_here
       ∙ cond-true (ltb (length (lot_in s.slots l).rows) l.length) _ _ (lt-ltb _ _ (omega (arith, count_here)))
 
-  -- the part that is lent holds the lot's rows
-  pub lent : newest l.count (part_of l s.slots) ≡ (lot_in s.slots l).rows
-  lent = ap (λ rs. reverse (map row_of rs)) (take-take l.count (l.offset + l.length - l.offset) (drop l.offset s.slots) (omega (arith, k.held)))
-
-  pub lent_size : length (part_of l s.slots) ≡ l.length
-  lent_size = let whole : length s.slots ≡ 256 = s.whole in simp (length-take, length-drop) (omega (arith, k.fits))
-
-  module _ (part : List Row) (long : length part ≡ length (part_of l s.slots)) where
-    pub whole_after : length (with_part l s.slots part) ≡ 256
-    whole_after =
+  -- A row is put into the first slot that is free.
+  module _ (row : Row) (room : l.count < l.length) where
+    -- which is among those that are lent, from `start` to `stop`
+    pub put_lent : (start stop : ℕ) (part : List Row) → start ≡ l.offset → stop ≡ l.offset + l.length
+        → part ≡ set (take (stop - start) (drop start s.slots)) l.count row → put_mid start (stop - start) s.slots part ≡ set s.slots (l.offset + l.count) row
+    put_lent start stop part from to e =
         let whole : length s.slots ≡ 256 = s.whole in
-        simp (length-append, length-take, length-drop) (omega (arith, k.fits, long, lent_size))
+        ap (put_mid start (stop - start) s.slots) e
+        ∙ put_set start (stop - start) s.slots l.count row (omega (arith, from, to, room)) (omega (arith, from, to, l.inside))
+        ∙ ap (λ n. set s.slots (n + l.count) row) from
 
-    pub only : OnlyIn (pair_at (pairs_in s) v) s.slots (with_part l s.slots part)
-    only =
-        subst (λ (p : Pair). OnlyIn p s.slots (with_part l s.slots part)) (sym pair_here) (record {
-          before = outside_before (take s.vendors s.lots) s.kept s.slots part v l in_use is_use s.whole (long ∙ lent_size);
-          behind = outside_behind (take s.vendors s.lots) s.kept s.slots part v l in_use is_use s.whole (long ∙ lent_size) (l.offset + l.length) (omega arith);
-        })
+    pub only_put : OnlyIn (span_of l) s.slots (set s.slots (l.offset + l.count) row)
+    only_put = record {
+      before = take-set-le l.offset s.slots (l.offset + l.count) row (omega arith);
+      behind = drop-set-lt (l.offset + l.length) s.slots (l.offset + l.count) row (omega arith);
+    }
 
-    pub lots_written : (new : coded.Lot) → new.offset ≡ l.offset → new.count ≤ l.length
-        → map (lot_in (with_part l s.slots part)) (take s.vendors (set s.lots v new))
-        ≡ set (lots_in s) v (record { rows = newest new.count part; lost = new.lost })
-    lots_written new e few =
-        ap (map (lot_in (with_part l s.slots part))) (take_of_set s.vendors s.lots v new)
-        ∙ written (take s.vendors s.lots) s.kept s.slots part v l in_use is_use s.whole (long ∙ lent_size) new e few
+    pub newest_put : newest (take (l.count + 1) (drop l.offset (set s.slots (l.offset + l.count) row))) ≡ held row ∷ (lot_in s.slots l).rows
+    newest_put =
+        let whole : length s.slots ≡ 256 = s.whole in
+        let free : l.count < length (drop l.offset s.slots) = simp length-drop (omega (arith, l.inside)) in
+        ap (λ rows. newest (take (l.count + 1) rows)) (drop-set-add l.offset s.slots l.count row)
+        ∙ ap newest (take_more_set (drop l.offset s.slots) l.count row free)
+        ∙ ap reverse (map_push held (take l.count (drop l.offset s.slots)) row)
+        ∙ reverse-append (map held (take l.count (drop l.offset s.slots))) (held row ∷ [])
 
-    -- the lot's own record stays
-    pub lots_rewritten : map (lot_in (with_part l s.slots part)) (take s.vendors s.lots)
-        ≡ set (lots_in s) v (record { rows = newest l.count part; lost = l.lost })
-    lots_rewritten =
-        ap (λ ls. map (lot_in (with_part l s.slots part)) (take s.vendors ls))
-        (sym (set-get_or s.lots v l) ∙ ap (set s.lots v) (sym k.is))
-        ∙ lots_written l refl k.held
+  -- The rows of the lot are lent, from `start` to `stop`, and come back as `part`.
+  module _ (start stop : ℕ) (from : start ≡ l.offset) (to : stop ≡ l.offset + l.count) (part : List Row) (long : length part ≡ length (take (stop - start) (drop start s.slots))) where
+    size : stop - start ≡ l.count
+    size = omega (arith, from, to)
+
+    as_long : length part ≡ stop - start
+    as_long = let whole : length s.slots ≡ 256 = s.whole in long ∙ simp (length-take, length-drop) (omega (arith, size, from, l.inside, l.fits))
+
+    starts : start ≤ length s.slots
+    starts = let whole : length s.slots ≡ 256 = s.whole in omega (arith, from, l.inside)
+
+    after_is : (n : ℕ) → n ≤ l.count → newest (take n (drop l.offset (put_mid start (stop - start) s.slots part))) ≡ newest (take n part)
+    after_is n few =
+        let after = put_mid start (stop - start) s.slots part in
+        ap (λ o. newest (take n (drop o after))) (sym from)
+        ∙ ap newest (sym (take-take n (stop - start) (drop start after) (omega (arith, size, few))))
+        ∙ ap (λ rows. newest (take n rows)) (between-put_mid start (stop - start) s.slots part stop starts as_long)
+
+    pub lent_back : Lent s.slots (put_mid start (stop - start) s.slots part) l (take (stop - start) (drop start s.slots)) part
+    lent_back =
+        let whole : length s.slots ≡ 256 = s.whole in
+        record {
+          whole = simp (length-append, length-take, length-drop) (omega (arith, from, to, as_long, l.inside, l.fits));
+          only = record {
+            before = take-put_mid_below start (stop - start) s.slots part l.offset (omega (arith, from)) starts;
+            behind = drop-put_mid start (stop - start) s.slots part (l.offset + l.length) (omega (arith, from, size, l.fits)) starts as_long;
+          };
+          few = sym long ∙ as_long ∙ size;
+          before = ap (λ n. newest (take n (drop start s.slots))) size ∙ ap (λ n. newest (take l.count (drop n s.slots))) from;
+          after = after_is;
+          all = after_is l.count (omega arith) ∙ ap newest (take_all l.count part (omega (arith, as_long, size)));
+        }

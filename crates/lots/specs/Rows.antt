@@ -1,19 +1,20 @@
 -- What a row of the code stands for, and what the rows in some slots do.
-use Rattle.std.specs.Prelude.{◌≡◌, ℕ, ◌<◌, cond, List, [], map, reverse, length, take, ◌==◌, slice_index_or, slice_set}
+use Rattle.std.specs.Prelude.{◌≡◌, ℕ, ◌<◌, cond, List, [], map, reverse, length, ◌==◌, slice_index_or, slice_set}
 use Rattle.rules.specs.Lots.{Lot}
-use Rattle.lots.specs.declared.row.Row.{Row}
+use Rattle.inplace.specs.Held.{held}
+use Rattle.inplace.specs.declared.array_vec.ArrayVec.{ArrayVec}
 
--- The cells of a row.
-abbrev pub row_of : Row → List ℕ
-row_of r = take r.width r.cells
+-- A row of the code: up to four cells.
+abbrev pub Row : Type 0
+Row = ArrayVec ℕ 4
 
--- The rows in the first `count` slots, newest first: they lie there oldest first.
-abbrev pub newest : ℕ → List Row → List (List ℕ)
-newest count slots = reverse (map row_of (take count slots))
+-- The rows that lie in some slots, oldest first: what they hold, newest first.
+abbrev pub newest : List Row → List (List ℕ)
+newest rows = reverse (map held rows)
 
 -- The lot whose rows those are, with nothing lost.
-abbrev pub part_lot : ℕ → List Row → Lot
-part_lot count slots = record { rows = newest count slots; lost = 0 }
+abbrev pub lot_of_rows : List Row → Lot
+lot_of_rows rows = record { rows = newest rows; lost = 0 }
 
 -- What an alteration makes of one row.
 abbrev pub changed : ℕ → (List ℕ → ℕ) → (List ℕ → ℕ) → List ℕ → List ℕ

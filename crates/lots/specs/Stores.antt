@@ -1,11 +1,12 @@
 -- What a store stands for: the lots of all tables of a bench.
-use Rattle.std.specs.Prelude.{◌≡◌, ℕ, Bool, cond, List, [], map, length, take, ◌≢◌, nat_lt, slice_index_or}
+use Rattle.std.specs.Prelude.{◌≡◌, ℕ, Bool, cond, List, [], map, length, ◌≢◌, nat_lt, slice_index_or}
+use Rattle.inplace.specs.Held.{held}
 use Rattle.rules.specs.Pairs.{Pair, pair_at}
 use Rattle.rules.specs.Plans.{Plan}
 use Rattle.rules.specs.Lots.{Lot, Lots, no_rows, put_lot, enter_row}
 use Rattle.lots.specs.Lots.{lot_at, OnlyIn}
 use Rattle.lots.specs.Tables.{lots_in, pairs_in, slots_in}
-use Rattle.lots.specs.declared.row.Row.{Row}
+use Rattle.lots.specs.Rows.{Row}
 use Rattle.lots.specs.declared.table.Table as stored
 use Rattle.lots.specs.declared.store.Store as coded
 
@@ -14,7 +15,7 @@ abbrev pub lots_at : List (List Lot) → Lots
 lots_at lists t v = lot_at (slice_index_or lists t []) v
 
 abbrev pub by_table : coded.Store → List (List Lot)
-by_table s = map lots_in (take s.count s.tables)
+by_table s = map lots_in (held s.tables)
 
 -- The lots of a store.
 unfoldable pub lots_of : coded.Store → Lots
@@ -22,11 +23,11 @@ lots_of s = lots_at (by_table s)
 
 -- Their pairs, by table and vendor: no call on a store changes them.
 unfoldable pub pairs_of : coded.Store → List (List Pair)
-pairs_of s = map pairs_in (take s.count s.tables)
+pairs_of s = map pairs_in (held s.tables)
 
 -- All slots, by table.
 unfoldable pub slots_of : coded.Store → List (List Row)
-slots_of s = map slots_in (take s.count s.tables)
+slots_of s = map slots_in (held s.tables)
 
 -- Only slots of one lot have changed: the other tables are as they were, and in its own table so are the slots before it
 -- and behind it.

@@ -4,7 +4,6 @@
 // the slots and the lots of one table, and a `Store` has the tables of a bench.
 #![tactic(auto)]
 
-pub mod cells;
 pub mod looking;
 pub mod lot;
 pub mod opening;
@@ -12,13 +11,15 @@ pub mod part;
 pub mod promises;
 pub mod reading;
 pub mod reads;
-pub mod row;
 pub mod store;
 pub mod storing;
 pub mod table;
 pub mod writes;
 
+use inplace::ArrayVec;
 pub use promises::{lots_are_those_of_the_plan, lots_keep_to_their_room, rows_keep_their_width};
 pub use reading::Reading;
-pub use row::Row;
 pub use store::Store;
+
+// A row has up to four cells.
+pub type Row = ArrayVec<u32, 4>;

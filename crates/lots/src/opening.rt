@@ -7,10 +7,11 @@ ghost use Rattle.layout.specs.Plans.{plan_of};
 ghost use Rattle.lots.specs.Tables.{lots_in, pairs_in};
 ghost use Rattle.lots.specs.Stores.{lots_of, pairs_of, plan_pairs};
 
+use crate::Row;
 use crate::lot::Lot;
-use crate::row::Row;
 use crate::store::Store;
 use crate::table::Table;
+use inplace::ArrayVec;
 use layout::{Pair, Plan};
 
 impl Table {
@@ -20,27 +21,18 @@ impl Table {
         ensures lots { lots_in result ≡ map (λ _. no_rows) pairs.now }
         ensures pairs { pairs_in result ≡ map pair_of pairs.now }
     {
-        let unused = Lot {
+        let nowhere = Pair {
             offset: 0,
             length: 0,
-            count: 0,
-            lost: 0,
         };
-        let mut lots = [unused; 32];
-        let mut vendors = 0;
+        let mut lots = ArrayVec::new(Lot::new(&nowhere));
         for pair in pairs {
-            lots[vendors] = Lot {
-                offset: pair.offset as usize,
-                length: pair.length as usize,
-                ..unused
-            };
-            vendors += 1;
+            let _ = lots.push(Lot::new(pair));
         }
-        let blank = Row::new();
+        let blank = Row::new(0);
         Table {
             slots: [blank; 256],
             lots,
-            vendors,
         }
     }
 }
@@ -52,13 +44,11 @@ impl Store {
         ensures pairs { pairs_of result ≡ plan_pairs (plan_of plan.now) }
     {
         let unused = Table::new(&[]);
-        let mut tables = [unused; 4];
-        let mut count = 0;
+        let mut tables = ArrayVec::new(unused);
         let declared = plan.tables();
         for table in declared {
-            tables[count] = Table::new(table.lots());
-            count += 1;
+            let _ = tables.push(Table::new(table.lots()));
         }
-        Store { tables, count }
+        Store { tables }
     }
 }

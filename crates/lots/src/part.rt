@@ -1,30 +1,31 @@
-// A lot's part of the slots, lent to what writes there. The first `count` slots hold the rows, oldest first.
-ghost use Rattle.std.specs.Prelude.{◌≡◌, ◌+◌, ◌<◌, ◌≤◌, ◌∷◌, length};
+// What is done to a lot's part of the slots, which is lent on: its rows lie at the front, oldest first.
+ghost use Rattle.std.specs.Prelude.{◌≡◌, ◌<◌, ◌≤◌, length, take, slice_set};
+ghost use Rattle.inplace.specs.Held.{held};
 ghost use Rattle.rules.specs.Evaluation.{drop_rows, alter_rows};
-ghost use Rattle.lots.specs.Rows.{row_of, newest, part_lot, changed};
+ghost use Rattle.lots.specs.Rows.{newest, lot_of_rows, changed};
 
+use crate::Row;
 use crate::reading::Reading;
-use crate::row::Row;
 
 // Puts a row in front, into the first slot that is free.
 pub(crate) fn add(part: &mut [Row], count: usize, row: Row)
     requires { count < length part.old }
-    ensures { newest (count + 1) part.new ≡ row_of row ∷ newest count part.old }
+    ensures { part.new ≡ slice_set part.old count row }
 {
     part[count] = row;
 }
 
 // Drops the rows whose condition is not 0: the others move up in their order. Answers how many are left.
-pub(crate) fn drop_by<R: Reading>(part: &mut [Row], count: usize, condition: &R) -> usize
-    requires { count ≤ length part.old }
-    ensures rows { newest result part.new ≡ (drop_rows (R.reads condition.now) (part_lot count part.old)).rows }
-    ensures few { result ≤ count }
+pub(crate) fn drop_by<R: Reading>(rows: &mut [Row], condition: &R) -> usize
+    ensures rows { newest (take result rows.new) ≡ (drop_rows (R.reads condition.now) (lot_of_rows rows.old)).rows }
+    ensures few { result ≤ length rows.old }
 {
+    // Rows are moved within the slice, which has no `retain`, and there is no heap for another list.
     let mut left = 0;
-    for i in 0..count {
-        let row = part[i];
+    for i in 0..rows.len() {
+        let row = rows[i];
         if condition.value(&row) == 0 {
-            part[left] = row;
+            rows[left] = row;
             left += 1;
         }
     }
@@ -33,7 +34,7 @@ pub(crate) fn drop_by<R: Reading>(part: &mut [Row], count: usize, condition: &R)
 
 // A row after an alteration: the column is set, from the cells as they were, where the condition is not 0.
 fn altered<V: Reading, C: Reading>(row: &Row, column: usize, value: &V, condition: &C) -> Row
-    ensures { row_of result ≡ changed column (V.reads value.now) (C.reads condition.now) (row_of row.now) }
+    ensures { held result ≡ changed column (V.reads value.now) (C.reads condition.now) (held row.now) }
 {
     if condition.value(row) == 0 {
         return *row;
@@ -43,17 +44,14 @@ fn altered<V: Reading, C: Reading>(row: &Row, column: usize, value: &V, conditio
 
 // Sets a column in the rows whose condition is not 0, each from its own old cells.
 pub(crate) fn alter_by<V: Reading, C: Reading>(
-    part: &mut [Row],
-    count: usize,
+    rows: &mut [Row],
     column: usize,
     value: &V,
     condition: &C,
 )
-    requires { count ≤ length part.old }
-    ensures { newest count part.new ≡ (alter_rows column (V.reads value.now) (C.reads condition.now) (part_lot count part.old)).rows }
+    ensures { newest rows.new ≡ (alter_rows column (V.reads value.now) (C.reads condition.now) (lot_of_rows rows.old)).rows }
 {
-    for i in 0..count {
-        let row = part[i];
-        part[i] = altered(&row, column, value, condition);
+    for row in rows.iter_mut() {
+        *row = altered(row, column, value, condition);
     }
 }

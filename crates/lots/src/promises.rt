@@ -2,22 +2,16 @@
 ghost use Rattle.lots.specs.Promises.{RowsFit, WidthsStay, PlanLotsHold};
 
 // No lot holds more rows than its plan has room for.
-pub fn lots_keep_to_their_room() -> u8
+pub fn lots_keep_to_their_room()
     ensures { RowsFit }
-{
-    0
-}
+{}
 
 // Rows of one width keep it, whatever is dropped or altered.
-pub fn rows_keep_their_width() -> u8
+pub fn rows_keep_their_width()
     ensures { WidthsStay }
-{
-    0
-}
+{}
 
 // The store of a plan has the plan's lots, each with the plan's room, and a row enters there as the rules have it.
-pub fn lots_are_those_of_the_plan() -> u8
+pub fn lots_are_those_of_the_plan()
     ensures { PlanLotsHold }
-{
-    0
-}
+{}

@@ -1,12 +1,9 @@
-ghost use Rattle.std.specs.Prelude.{◌≡◌, ◌≤◌, length};
-
 use crate::table::Table;
+use inplace::ArrayVec;
 
-// The rows of a bench: its first `count` tables. It holds all that they will ever need in place.
+// The rows of a bench, table by table. It holds all that they will ever need in place. Clauses see three things of it, the
+// lots, their pairs and the slots, and so no one view.
 #[derive(Drop)]
 pub struct Store {
-    pub(crate) tables: [Table; 4],
-    pub(crate) count: usize,
-    ghost whole: { length tables ≡ 4 },
-    ghost few: { count ≤ 4 },
+    pub(crate) tables: ArrayVec<Table, 4>,
 }

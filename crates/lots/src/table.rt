@@ -1,30 +1,17 @@
-ghost use Rattle.std.specs.Prelude.{◌≡◌, ◌≤◌, true, length, take};
-ghost use Rattle.lots.specs.Lots.{orderly};
+ghost use Rattle.std.specs.Prelude.{◌≡◌, true, length, map};
+ghost use Rattle.inplace.specs.Held.{held};
+ghost use Rattle.rules.specs.Pairs.{laid};
+ghost use Rattle.lots.specs.Lots.{span_of};
 
+use crate::Row;
 use crate::lot::Lot;
-use crate::row::Row;
-use std::alloc::AllocError;
+use inplace::ArrayVec;
 
-// The slots of one table, and the lots of its vendors. The lots keep the rule of pairs, and none has more rows than
-// slots, whatever is written.
+// The slots of one table, all in place since nothing is allocated, and the lots of its vendors. The lots keep the rule of pairs, whatever is written.
+#[derive(Clone, Copy)]
 pub struct Table {
     pub(crate) slots: [Row; 256],
-    pub(crate) lots: [Lot; 32],
-    pub(crate) vendors: usize,
+    pub(crate) lots: ArrayVec<Lot, 32>,
     ghost whole: { length slots ≡ 256 },
-    ghost every: { length lots ≡ 32 },
-    ghost few: { vendors ≤ 32 },
-    ghost kept: { orderly (take vendors lots) ≡ true },
-}
-
-impl Copy for Table {}
-
-impl Clone for Table {
-    ghost is_clone = { λ a b. b ≡ a };
-
-    ghost is_infallible = { λ _. Unit {0} };
-
-    fn clone(&self) -> Result<Self, AllocError> {
-        Ok(*self)
-    }
+    ghost kept: { laid 0 256 (map span_of (held lots)) ≡ true },
 }

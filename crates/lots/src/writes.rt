@@ -1,41 +1,35 @@
-// Writing to a lot: its part of the slots is lent on, and no slot outside it is changed.
+// Writing to a lot: no slot outside it is changed.
 ghost use Rattle.std.specs.Prelude.{◌≡◌, slice_set};
+ghost use Rattle.inplace.specs.Held.{held};
 ghost use Rattle.rules.specs.Pairs.{pair_at};
 ghost use Rattle.rules.specs.Lots.{enter_row};
 ghost use Rattle.rules.specs.Evaluation.{drop_rows, alter_rows};
-ghost use Rattle.lots.specs.Rows.{row_of};
 ghost use Rattle.lots.specs.Lots.{lot_at, OnlyIn};
 ghost use Rattle.lots.specs.Tables.{lots_in, pairs_in};
 
-use crate::lot::Lot;
+use crate::Row;
 use crate::part::{add, alter_by, drop_by};
 use crate::reading::Reading;
-use crate::row::Row;
 use crate::table::Table;
 
 impl Table {
     // Puts a row in front of a lot, or counts it as lost where the lot is full.
     pub(crate) fn enter(&mut self, vendor: usize, row: Row)
-        ensures lots { lots_in self.new ≡ slice_set (lots_in self.old) vendor (enter_row (pair_at (pairs_in self.old) vendor).length (row_of row) (lot_at (lots_in self.old) vendor)) }
+        ensures lots { lots_in self.new ≡ slice_set (lots_in self.old) vendor (enter_row (pair_at (pairs_in self.old) vendor).length (held row) (lot_at (lots_in self.old) vendor)) }
         ensures pairs { pairs_in self.new ≡ pairs_in self.old }
         ensures outside { OnlyIn (pair_at (pairs_in self.old) vendor) self.old.slots self.new.slots }
     {
-        let Some(lot) = self.lot(vendor) else {
+        let Some(mut lot) = self.lots.get(vendor) else {
             return;
         };
-        if lot.count >= lot.length {
-            let lost = lot.lost.saturating_add(1);
-            self.lots[vendor] = Lot { lost, ..lot };
+        if lot.is_full() {
+            lot.lost = lot.lost.saturating_add(1);
+            self.lots.set(vendor, lot);
             return;
         }
-        let from = lot.offset;
-        let to = from + lot.length;
-        let part = &mut self.slots[from..to];
-        add(part, lot.count, row);
-        self.lots[vendor] = Lot {
-            count: lot.count + 1,
-            ..lot
-        };
+        add(&mut self.slots[lot.all()], lot.count, row);
+        lot.count += 1;
+        self.lots.set(vendor, lot);
     }
 
     // Drops the rows of a lot whose condition is not 0.
@@ -44,14 +38,11 @@ impl Table {
         ensures pairs { pairs_in self.new ≡ pairs_in self.old }
         ensures outside { OnlyIn (pair_at (pairs_in self.old) vendor) self.old.slots self.new.slots }
     {
-        let Some(lot) = self.lot(vendor) else {
+        let Some(mut lot) = self.lots.get(vendor) else {
             return;
         };
-        let from = lot.offset;
-        let to = from + lot.length;
-        let part = &mut self.slots[from..to];
-        let count = drop_by(part, lot.count, condition);
-        self.lots[vendor] = Lot { count, ..lot };
+        lot.count = drop_by(&mut self.slots[lot.in_use()], condition);
+        self.lots.set(vendor, lot);
     }
 
     // Sets a column in the rows of a lot whose condition is not 0.
@@ -66,12 +57,8 @@ impl Table {
         ensures pairs { pairs_in self.new ≡ pairs_in self.old }
         ensures outside { OnlyIn (pair_at (pairs_in self.old) vendor) self.old.slots self.new.slots }
     {
-        let Some(lot) = self.lot(vendor) else {
-            return;
-        };
-        let from = lot.offset;
-        let to = from + lot.length;
-        let part = &mut self.slots[from..to];
-        alter_by(part, lot.count, column, value, condition);
+        if let Some(lot) = self.lots.get(vendor) {
+            alter_by(&mut self.slots[lot.in_use()], column, value, condition);
+        }
     }
 }

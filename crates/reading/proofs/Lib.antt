@@ -1,9 +1,9 @@
 pub mod Grows
 pub mod Depths
 pub mod ManyValues
-pub mod Fitting
 pub mod Altered
 pub mod Widths
 pub mod Rests
 pub mod Building
+pub mod Ifs
 pub mod Whens

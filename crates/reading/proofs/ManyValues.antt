@@ -1,20 +1,19 @@
 -- The expressions of an `add`, one after the other.
-use Rattle.std.proofs.Common.{◌≡◌, ℕ, zero, suc, ◌+◌, ◌-◌, ◌*◌, ◌<◌, ◌≤◌, Bool, true, false, cond, ◌&&◌, ltb, List, [], ◌∷◌, ◌++◌, map, length, Ok, Err, Result, refl, ap, ◌∙◌, sub-one, arith, length-append}
+use Rattle.std.proofs.Common.{◌≡◌, ℕ, zero, suc, ◌+◌, ◌-◌, ◌<◌, ◌≤◌, Bool, true, false, cond, ◌&&◌, ltb, List, [], ◌∷◌, ◌++◌, map, length, Ok, Err, Result, refl, ap, ap₂, ◌∙◌, sub-one, arith, length-append}
 use Rattle.std.proofs.lemmas.Bool.Decides.{nat_tests}
 use Rattle.rules.specs.Scripts as rules
 use Rattle.rules.specs.declared.refusal.Refusal.TheVariants.{Unexpected}
 use Rattle.rules.specs.Guards.{and_then}
 use Rattle.rules.specs.Plans.{Plan}
-use Rattle.grammar.specs.Tokens.{Refusal, Found, token_at}
+use Rattle.grammar.specs.declared.marks.Mark.TheVariants.{Comma, CloseParen}
+use Rattle.grammar.specs.Tokens.{Refusal, Found, token_at, is_mark}
 use Rattle.grammar.specs.Scopes.{Scope}
 use Rattle.grammar.specs.Steps.{unexpected}
 use Rattle.grammar.specs.Expressions.{Term, most_parens, read_expr}
-use Rattle.grammar.specs.Statements.{Values, Behind, last_value, more_values, behind, read_values}
+use Rattle.grammar.specs.Statements.{Values, Behind, last_value, more_values, behind, behind_if, read_values}
 use Rattle.script.specs.Nodes.{expr_at}
 use Rattle.script.specs.Ordered.{all_below}
 use Rattle.reading.specs.Terms.{Kept}
-use Rattle.reading.specs.Added.{Added}
-use Rattle.reading.proofs.Grows.{kept_twice}
 
 -- The last of them, and one with more to come.
 pub values_last : (text : List ℕ) (plan : Plan) (scope : Scope) (more : ℕ) (es : List rules.Expr) (place atoms : ℕ) → more ≡ 0
@@ -71,16 +70,16 @@ module _ (text : List ℕ) (plan : Plan) (scope : Scope) (more : ℕ) (es : List
       ∙ ap (value_behind text plan scope more es e f) is
 
   -- Something else stands there, or a comma with more to come, or the closing parenthesis behind the last.
-  pub values_other : behind f.token ≡ Behind.other → read_values text plan scope more es place atoms ≡ Err (Unexpected f.place)
-  values_other is = got Behind.other is ∙ other_behind text plan scope more es e f
+  pub values_other : is_mark Comma f.token ≡ false → is_mark CloseParen f.token ≡ false → read_values text plan scope more es place atoms ≡ Err (Unexpected f.place)
+  values_other comma close = got Behind.other (ap₂ behind_if comma close) ∙ other_behind text plan scope more es e f
 
-  pub values_on : behind f.token ≡ Behind.comma → (more ≡ 0 → ⊥)
+  pub values_on : is_mark Comma f.token ≡ true → (more ≡ 0 → ⊥)
       → read_values text plan scope more es place atoms ≡ read_values text plan scope (more - 1) (es ++ e.value ∷ []) f.after e.atoms
-  values_on is some = got Behind.comma is ∙ comma_behind text plan scope more es e f some
+  values_on comma some = got Behind.comma (ap (λ b. behind_if b (is_mark CloseParen f.token)) comma) ∙ comma_behind text plan scope more es e f some
 
-  pub values_end : behind f.token ≡ Behind.close → more ≡ 0
+  pub values_end : is_mark Comma f.token ≡ false → is_mark CloseParen f.token ≡ true → more ≡ 0
       → read_values text plan scope more es place atoms ≡ Ok (record { values = es ++ e.value ∷ []; after = f.after; atoms = e.atoms })
-  values_end is none = got Behind.close is ∙ close_behind text plan scope more es e f none
+  values_end comma close none = got Behind.close (ap₂ behind_if comma close) ∙ close_behind text plan scope more es e f none
 
 -- Places that stood still stand.
 pub kept_values : (was is : List rules.Expr) (ats : List ℕ) → Kept was is → all_below (length was) ats ≡ true → map (expr_at is) ats ≡ map (expr_at was) ats
@@ -126,14 +125,3 @@ value_pushed was is ats now at k b h e = record {
   inside = ap (all_below (length is)) e ∙ below_one (length is) ats at (below_kept (length was) (length is) ats k.longer b) h;
   values = ap (map (expr_at is)) e ∙ map_one is ats at ∙ ap (λ xs. xs ++ expr_at is at ∷ []) (kept_values was is ats k b);
 }
-
--- What was added behind one expression was added behind what stood before it.
-pub added_more : (was mid is : List rules.Expr) (ats : List ℕ) (atoms counted : ℕ) (r : Result ℕ Refusal) → Kept was mid → length mid + 2 * atoms ≤ length was + 2 * counted
-    → Added mid is ats counted r → Added was is ats atoms r
-added_more was mid is ats atoms counted (Ok m) k n a = record {
-  inside = a.inside;
-  nodes = omega (arith, n, a.nodes);
-  few = a.few;
-  kept = kept_twice was mid is k a.kept;
-}
-added_more was mid is ats atoms counted (Err why) k n a = tt

@@ -1,31 +1,26 @@
 -- What the expressions of an `add` stand for.
-use Rattle.std.specs.Prelude.{◌≡◌, ℕ, ◌+◌, ◌*◌, ◌≤◌, true, List, map, length, Ok, Err, Result}
+use Rattle.std.specs.Prelude.{◌≡◌, ℕ, true, List, map, length, Ok, Err, Result}
 use Rattle.rules.specs.Scripts as rules
+use Rattle.grammar.specs.declared.counts.Counts.{Counts}
 use Rattle.grammar.specs.Tokens.{Refusal}
-use Rattle.grammar.specs.Statements as grammar
 use Rattle.grammar.specs.Statements.{Values}
+use Rattle.lexis.specs.Meaning.{place_of}
 use Rattle.script.specs.Nodes.{expr_at}
 use Rattle.script.specs.Ordered.{all_below}
-use Rattle.reading.specs.declared.values.Behind.{Behind}
-use Rattle.reading.specs.declared.values.Behind.TheVariants.{Comma, Close, Other}
-use Rattle.reading.specs.Terms.{Kept}
+use Rattle.script.specs.Meaning.{exprs_of, codes_of}
+use Rattle.reading.specs.declared.parser.Parser.{Parser}
+use Rattle.reading.specs.Terms.{Larger}
 
-abbrev pub behind_of : Behind → grammar.Behind
-behind_of Comma = grammar.Behind.comma
-behind_of Close = grammar.Behind.close
-behind_of Other = grammar.Behind.other
+-- The expressions at these places.
+abbrev pub valued : Parser → List ℕ → Result (Unit {0}) Refusal → Result Values Refusal
+valued p ats (Ok done) = Ok (record { values = map (expr_at (exprs_of p.script)) ats; after = place_of p.reader; atoms = p.counts.atoms })
+valued p ats (Err why) = Err why
 
--- The expressions at these places, with the atoms that the code answers.
-abbrev pub valued : List rules.Expr → List ℕ → ℕ → Result ℕ Refusal → Result Values Refusal
-valued es ats after (Ok atoms) = Ok (record { values = map (expr_at es) ats; after = after; atoms = atoms })
-valued es ats after (Err why) = Err why
-
-pub record AddedTo (was is : List rules.Expr) (ats : List ℕ) (atoms counted : ℕ) : Type 0 where
+pub record AddedTo (es is : List rules.Expr) (cs ds : List rules.Code) (was now : Counts) (ats : List ℕ) : Type 0 where
   pub inside : all_below (length is) ats ≡ true
-  pub nodes : length is + 2 * atoms ≤ length was + 2 * counted
-  pub few : counted ≤ 128
-  pub kept : Kept was is
+  pub begun : now.begun ≡ was.begun
+  pub larger : Larger es is cs ds was now
 
-abbrev pub Added : List rules.Expr → List rules.Expr → List ℕ → ℕ → Result ℕ Refusal → Type 0
-Added was is ats atoms (Ok counted) = AddedTo was is ats atoms counted
-Added was is ats atoms (Err why) = Unit {0}
+abbrev pub Added : Parser → Parser → List ℕ → Result (Unit {0}) Refusal → Type 0
+Added old new ats (Ok done) = AddedTo (exprs_of old.script) (exprs_of new.script) (codes_of old.script) (codes_of new.script) old.counts new.counts ats
+Added old new ats (Err why) = Unit {0}

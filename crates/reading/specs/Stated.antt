@@ -1,27 +1,27 @@
 -- What a read statement of the code stands for, and what reading it leaves of the script's nodes.
-use Rattle.std.specs.Prelude.{◌≡◌, ℕ, ◌+◌, ◌*◌, ◌<◌, ◌≤◌, true, List, map, length, Ok, Err, Result}
-use Rattle.inplace.specs.Held.{held}
+use Rattle.std.specs.Prelude.{◌≡◌, ℕ, ◌<◌, true, List, length, Ok, Err, Result}
 use Rattle.rules.specs.Scripts as rules
 use Rattle.grammar.specs.Tokens.{Refusal}
 use Rattle.grammar.specs.Scopes.{Scope}
 use Rattle.grammar.specs.Statements as grammar
 use Rattle.grammar.specs.declared.counts.Counts.{Counts}
 use Rattle.layout.specs.Plans.{plan_of}
+use Rattle.lexis.specs.Meaning.{place_of}
 use Rattle.script.specs.declared.node.Stmt.{Stmt}
-use Rattle.script.specs.declared.node.Stmt.TheVariants.{Var, Set, If, When, Vendors, Each, Add, Drop, Alter}
-use Rattle.script.specs.Nodes.{index_of, mark_of, expr_at, block_at}
-use Rattle.script.specs.Ordered.{stmt_ordered}
+use Rattle.script.specs.Nodes.{expr_at, stmt_of}
+use Rattle.script.specs.Ordered.{names_below}
+use Rattle.script.specs.Meaning.{exprs_of, codes_of}
+use Rattle.reading.specs.declared.parser.Parser.{Parser}
 use Rattle.reading.specs.declared.env.Env as coded
-use Rattle.reading.specs.declared.statements.Stated.{Stated}
 use Rattle.reading.specs.declared.statements.Over.{Over}
 use Rattle.reading.specs.declared.statements.Target.{Target}
 use Rattle.reading.specs.declared.statements.Change.{Change}
 use Rattle.clauses.specs.Names.{scope_of}
 use Rattle.clauses.specs.Outcomes.{lot_of}
-use Rattle.reading.specs.Terms.{Kept}
+use Rattle.reading.specs.Terms.{Larger}
 
 abbrev pub env_of : coded.Env → grammar.Env
-env_of e = record { plan = plan_of e.plan.now; scope = scope_of e.names; blocks = e.blocks; turns = e.turns }
+env_of e = record { plan = plan_of e.scope.plan.now; scope = scope_of e.scope.names; blocks = e.blocks; turns = e.turns }
 
 -- A name with its lot.
 abbrev pub over_of : ℕ → Result Over Refusal → Result grammar.Over Refusal
@@ -33,45 +33,31 @@ abbrev pub target_of : ℕ → Result Target Refusal → Result grammar.Target R
 target_of after (Ok g) = Ok (record { word = g.word.now; lot = lot_of g.lot; column = g.column; after = after })
 target_of after (Err why) = Err why
 
-abbrev pub changed : List rules.Expr → ℕ → Result Change Refusal → Result grammar.Change Refusal
-changed es after (Ok c) = Ok (record { value = expr_at es c.value; condition = expr_at es c.condition; after = after; atoms = c.atoms })
-changed es after (Err why) = Err why
+abbrev pub changed : Parser → Result Change Refusal → Result grammar.Change Refusal
+changed p (Ok c) =
+    Ok (record { value = expr_at (exprs_of p.script) c.value; condition = expr_at (exprs_of p.script) c.condition; after = place_of p.reader; atoms = p.counts.atoms })
+changed p (Err why) = Err why
 
-pub record ChangedTo (was is : List rules.Expr) (atoms : ℕ) (c : Change) : Type 0 where
+pub record ChangedTo (es is : List rules.Expr) (cs ds : List rules.Code) (was now : Counts) (c : Change) : Type 0 where
   pub value : c.value < length is
   pub condition : c.condition < length is
-  pub nodes : length is + 2 * atoms ≤ length was + 2 * c.atoms
-  pub few : c.atoms ≤ 128
-  pub kept : Kept was is
+  pub begun : now.begun ≡ was.begun
+  pub larger : Larger es is cs ds was now
 
-abbrev pub Changed : List rules.Expr → List rules.Expr → ℕ → Result Change Refusal → Type 0
-Changed was is atoms (Ok c) = ChangedTo was is atoms c
-Changed was is atoms (Err why) = Unit {0}
+abbrev pub Changed : Parser → Parser → Result Change Refusal → Type 0
+Changed old new (Ok c) = ChangedTo (exprs_of old.script) (exprs_of new.script) (codes_of old.script) (codes_of new.script) old.counts new.counts c
+Changed old new (Err why) = Unit {0}
 
--- What a statement makes of the rest of its block, whatever rest its node names.
-abbrev pub before_of : List rules.Expr → List rules.Code → Stmt → rules.Code → rules.Code
-before_of es cs (Var mark rest) = rules.Code.var (mark_of mark)
-before_of es cs (Set place level value rest) = rules.Code.set place level (expr_at es value)
-before_of es cs (If condition first second rest) = rules.Code.if (expr_at es condition) (block_at cs first) (block_at cs second)
-before_of es cs (When left right first second rest) = rules.Code.when (index_of left) (index_of right) (block_at cs first) (block_at cs second)
-before_of es cs (Vendors body rest) = rules.Code.vendors (block_at cs body)
-before_of es cs (Each table owner body rest) = rules.Code.each table (index_of owner) (block_at cs body)
-before_of es cs (Add place table owner values rest) = rules.Code.add place table (index_of owner) (map (expr_at es) (held values))
-before_of es cs (Drop place table owner condition rest) = rules.Code.drop place table (index_of owner) (expr_at es condition)
-before_of es cs (Alter place table owner column value condition rest) = rules.Code.alter place table (index_of owner) column (expr_at es value) (expr_at es condition)
+abbrev pub stated : Parser → Scope → Result Stmt Refusal → Result grammar.Statement Refusal
+stated p scope (Ok stmt) =
+    Ok (record { before = stmt_of (exprs_of p.script) (codes_of p.script) stmt; scope = scope; after = place_of p.reader; counts = p.counts })
+stated p scope (Err why) = Err why
 
-abbrev pub stated : List rules.Expr → List rules.Code → Scope → ℕ → Result Stated Refusal → Result grammar.Statement Refusal
-stated es cs scope after (Ok s) = Ok (record { before = before_of es cs s.node; scope = scope; after = after; counts = s.counts })
-stated es cs scope after (Err why) = Err why
+-- The statement names what stands.
+pub record ToldTo (es is : List rules.Expr) (cs ds : List rules.Code) (was now : Counts) (stmt : Stmt) : Type 0 where
+  pub fits : names_below (length is) (length ds) stmt ≡ true
+  pub larger : Larger es is cs ds was now
 
--- The statement's node names what stands, and the nodes are at most twice the atoms still.
-pub record FlatTo (was is : List rules.Expr) (cs : List rules.Code) (counts : Counts) (s : Stated) : Type 0 where
-  pub fits : stmt_ordered (length is) (length cs) s.node ≡ true
-  pub nodes : length is + 2 * counts.atoms ≤ length was + 2 * s.counts.atoms
-  pub few : s.counts.atoms ≤ 128
-  pub begun : s.counts.begun ≡ counts.begun
-  pub kept : Kept was is
-
-abbrev pub Flat : List rules.Expr → List rules.Expr → List rules.Code → Counts → Result Stated Refusal → Type 0
-Flat was is cs counts (Ok s) = FlatTo was is cs counts s
-Flat was is cs counts (Err why) = Unit {0}
+abbrev pub Told : Parser → Parser → Result Stmt Refusal → Type 0
+Told old new (Ok stmt) = ToldTo (exprs_of old.script) (exprs_of new.script) (codes_of old.script) (codes_of new.script) old.counts new.counts stmt
+Told old new (Err why) = Unit {0}

@@ -1,9 +1,9 @@
 // Expressions, by recursion over the parentheses that may still nest.
-ghost use Rattle.std.specs.Prelude.{◌≡◌, ℕ, ◌+◌, ◌*◌, ◌≤◌, true, [], length, Ok, Err};
+ghost use Rattle.std.specs.Prelude.{◌≡◌, ◌+◌, ◌≤◌, true, [], length, IfOk};
 ghost use Rattle.std.specs.Option.{option_map};
 ghost use Rattle.grammar.specs.declared.marks.Mark.TheVariants.{Dot};
 ghost use Rattle.grammar.specs.Tokens.{is_mark, next_is};
-ghost use Rattle.grammar.specs.Expressions.{count_atom, atom, cursor_table, cell_atom, plain_atom, name_atom, op_in, read_op, pair_with, read_expr};
+ghost use Rattle.grammar.specs.Expressions.{most_atoms, count_atom, atom, cell_atom, plain_atom, name_atom, op_in, read_op, pair_with, read_expr};
 ghost use Rattle.layout.specs.Plans.{plan_of};
 ghost use Rattle.lexis.specs.Meaning.{meaning, text_of, place_of};
 ghost use Rattle.script.specs.Nodes.{op_of, expr_of, expr_at};
@@ -14,25 +14,18 @@ ghost use Rattle.clauses.specs.Names.{scope_of};
 ghost use Rattle.clauses.specs.Outcomes.{parted};
 ghost use Rattle.reading.specs.Terms.{termed, Kept, Grown};
 
-use clauses::{Asked, Names, Word, expect_mark, read_column};
+use crate::parser::Parser;
+use clauses::{Asked, Placed, Scope, expect, read_column};
 use grammar::{Keyword, Mark, NameKind, Refusal};
-use layout::Plan;
 use lexis::{Reader, Token};
 use script::{Expr, Op, Script};
 
 const MOST_ATOMS: usize = 128;
 
-// An expression that was read: its place among the script's, and the atoms of the text so far.
-#[derive(Clone, Copy)]
-pub(crate) struct Term {
-    pub(crate) at: usize,
-    pub(crate) atoms: usize,
-}
-
 // One atom more, that begins at a place.
 fn count_atom(place: usize, atoms: usize) -> Result<usize, Refusal>
     ensures value { result ≡ count_atom place atoms }
-    ensures limit { elim result [ Ok n ↦ (n ≤ 128) × (n ≡ atoms + 1) | Err e ↦ Unit {0} ] }
+    ensures limit { IfOk result (λ n. (n ≤ most_atoms) × (n ≡ atoms + 1)) }
 {
     if atoms >= MOST_ATOMS {
         return Err(Refusal::LimitPassed(place));
@@ -49,26 +42,10 @@ fn push(script: &mut Script, node: Expr) -> usize
     ensures kept { Kept (exprs_of script.old) (exprs_of script.new) }
     ensures codes { codes_of script.new ≡ codes_of script.old }
 {
-    match script.push_expr(node) {
-        Some(at) => at,
-        None => 0,
-    }
+    script.push_expr(node).unwrap()
 }
 
-// An atom of one node.
-fn push_atom(script: &mut Script, node: Expr, place: usize, atoms: usize) -> Result<Term, Refusal>
-    requires leaf { parts node ≡ [] }
-    requires nodes { length (exprs_of script.old) ≤ 2 * atoms }
-    ensures value { (after : ℕ) → termed (exprs_of script.new) after result ≡ atom (expr_of (exprs_of script.old) node) place after atoms }
-    ensures grown { Grown (exprs_of script.old) (exprs_of script.new) atoms result }
-    ensures codes { codes_of script.new ≡ codes_of script.old }
-{
-    let atoms = count_atom(place, atoms)?;
-    let at = push(script, node);
-    Ok(Term { at, atoms })
-}
-
-// The operator that a token is, if it is one.
+// The operator that a token is, if it is one. It is no `TryFrom`, since both types are of other crates.
 fn op_in(token: Token<'_>) -> Option<Op>
     ensures { option_map op_of result ≡ op_in (meaning token.entry) }
 {
@@ -88,161 +65,99 @@ fn read_op(reader: &mut Reader<'_>) -> Result<Op, Refusal>
     ensures text { text_of reader.new ≡ text_of reader.old }
 {
     let found = reader.next()?;
-    match op_in(found.token) {
-        Some(op) => Ok(op),
-        None => Err(Refusal::Unexpected(found.place)),
+    op_in(found.token).ok_or(Refusal::Unexpected(found.place))
+}
+
+impl<'a> Parser<'a> {
+    // An atom of one node.
+    fn push_atom(&mut self, node: Expr, place: usize) -> Result<usize, Refusal>
+        requires { parts node ≡ [] }
+        ensures value { termed self.new result ≡ atom (expr_of (exprs_of self.old.script) node) place (place_of self.old.reader) self.old.counts.atoms }
+        ensures text { text_of self.new.reader ≡ text_of self.old.reader }
+        ensures grown { Grown self.old self.new result }
+    {
+        self.counts.atoms = count_atom(place, self.counts.atoms)?;
+        Ok(push(&mut self.script, node))
     }
-}
 
-// A variable or an index, whose name was read.
-fn read_plain(
-    names: &Names<'_>,
-    script: &mut Script,
-    word: Word<'_>,
-    atoms: usize,
-) -> Result<Term, Refusal>
-    requires nodes { length (exprs_of script.old) ≤ 2 * atoms }
-    ensures value { (after : ℕ) → termed (exprs_of script.new) after result ≡ plain_atom (scope_of names.now) word.entry.place word.entry.letters.now after atoms }
-    ensures grown { Grown (exprs_of script.old) (exprs_of script.new) atoms result }
-    ensures codes { codes_of script.new ≡ codes_of script.old }
-{
-    let bound = names.use_name(word.place, Asked::Value, word.letters)?;
-    match bound.kind {
-        NameKind::Variable => push_atom(script, Expr::Variable(bound.level), word.place, atoms),
-        NameKind::Index => push_atom(script, Expr::OfIndex(bound.level), word.place, atoms),
-        NameKind::Cursor(_) => push_atom(script, Expr::Literal(0), word.place, atoms),
-    }
-}
-
-// The table whose rows a cursor goes through.
-fn cursor_table(kind: NameKind) -> usize
-    ensures { result ≡ cursor_table kind }
-{
-    match kind {
-        NameKind::Cursor(table) => table,
-        _ => 0,
-    }
-}
-
-// A column of a cursor, whose name was read.
-fn read_cell(
-    reader: &mut Reader<'_>,
-    plan: &Plan,
-    names: &Names<'_>,
-    script: &mut Script,
-    word: Word<'_>,
-    atoms: usize,
-) -> Result<Term, Refusal>
-    requires nodes { length (exprs_of script.old) ≤ 2 * atoms }
-    ensures value { termed (exprs_of script.new) (place_of reader.new) result ≡ cell_atom (text_of reader.old) (plan_of plan.now) (scope_of names.now) word.entry.place word.entry.letters.now (place_of reader.old) atoms }
-    ensures text { text_of reader.new ≡ text_of reader.old }
-    ensures grown { Grown (exprs_of script.old) (exprs_of script.new) atoms result }
-    ensures codes { codes_of script.new ≡ codes_of script.old }
-{
-    let bound = names.use_name(word.place, Asked::Cursor, word.letters)?;
-    let counted = count_atom(word.place, atoms)?;
-    expect_mark(reader, Mark::Dot)?;
-    let column = read_column(reader, plan, cursor_table(bound.kind))?;
-    let at = push(script, Expr::Cell(bound.level, column));
-    Ok(Term { at, atoms: counted })
-}
-
-// An atom that begins with a name, which was read.
-fn read_named(
-    reader: &mut Reader<'_>,
-    plan: &Plan,
-    names: &Names<'_>,
-    script: &mut Script,
-    word: Word<'_>,
-    atoms: usize,
-) -> Result<Term, Refusal>
-    requires nodes { length (exprs_of script.old) ≤ 2 * atoms }
-    ensures value { termed (exprs_of script.new) (place_of reader.new) result ≡ name_atom (text_of reader.old) (plan_of plan.now) (scope_of names.now) word.entry.place word.entry.letters.now (place_of reader.old) atoms (next_is (text_of reader.old) (place_of reader.old) (is_mark Dot)) }
-    ensures text { text_of reader.new ≡ text_of reader.old }
-    ensures grown { Grown (exprs_of script.old) (exprs_of script.new) atoms result }
-    ensures codes { codes_of script.new ≡ codes_of script.old }
-{
-    if reader.next_is(Mark::Dot) {
-        return read_cell(reader, plan, names, script, word, atoms);
-    }
-    read_plain(names, script, word, atoms)
-}
-
-// What follows an opening parenthesis.
-#[cycle(read_expr_read_pair)]
-fn read_pair(
-    reader: &mut Reader<'_>,
-    plan: &Plan,
-    names: &Names<'_>,
-    script: &mut Script,
-    depth: usize,
-    atoms: usize,
-) -> Result<Term, Refusal>
-    requires nodes { length (exprs_of script.old) ≤ 2 * atoms }
-    requires few { atoms ≤ 128 }
-    ensures value { termed (exprs_of script.new) (place_of reader.new) result ≡ pair_with (text_of reader.old) (read_expr (text_of reader.old) (plan_of plan.now) (scope_of names.now) depth) (place_of reader.old) atoms }
-    ensures text { text_of reader.new ≡ text_of reader.old }
-    ensures grown { Grown (exprs_of script.old) (exprs_of script.new) atoms result }
-    ensures codes { codes_of script.new ≡ codes_of script.old }
-{
-    let left = read_expr(reader, plan, names, script, depth, atoms)?;
-    let op = read_op(reader)?;
-    let right = read_expr(reader, plan, names, script, depth, left.atoms)?;
-    expect_mark(reader, Mark::CloseParen)?;
-    let at = push(script, Expr::Apply(op, left.at, right.at));
-    Ok(Term {
-        at,
-        atoms: right.atoms,
-    })
-}
-
-// An expression with at most so many parentheses one in the other.
-#[cycle(read_expr_read_pair)]
-pub(crate) fn read_expr(
-    reader: &mut Reader<'_>,
-    plan: &Plan,
-    names: &Names<'_>,
-    script: &mut Script,
-    depth: usize,
-    atoms: usize,
-) -> Result<Term, Refusal>
-    requires nodes { length (exprs_of script.old) ≤ 2 * atoms }
-    requires few { atoms ≤ 128 }
-    ensures value { termed (exprs_of script.new) (place_of reader.new) result ≡ read_expr (text_of reader.old) (plan_of plan.now) (scope_of names.now) depth (place_of reader.old) atoms }
-    ensures text { text_of reader.new ≡ text_of reader.old }
-    ensures grown { Grown (exprs_of script.old) (exprs_of script.new) atoms result }
-    ensures codes { codes_of script.new ≡ codes_of script.old }
-{
-    let found = reader.next()?;
-    match found.token {
-        Token::Name(letters) => {
-            let word = Word {
-                letters,
-                place: found.place,
-            };
-            read_named(reader, plan, names, script, word, atoms)
+    // A variable or an index, whose name was read.
+    fn read_plain(&mut self, scope: &Scope<'a>, word: Placed<&'a [u8]>) -> Result<usize, Refusal>
+        ensures value { termed self.new result ≡ plain_atom (scope_of scope.now.names) word.entry.place word.entry.value.now (place_of self.old.reader) self.old.counts.atoms }
+        ensures text { text_of self.new.reader ≡ text_of self.old.reader }
+        ensures grown { Grown self.old self.new result }
+    {
+        let bound = scope.names.use_name(Asked::Value, word)?;
+        match bound.kind {
+            NameKind::Variable => self.push_atom(Expr::Variable(bound.level), word.place),
+            NameKind::Index => self.push_atom(Expr::OfIndex(bound.level), word.place),
+            // It has no value of its own, and was refused.
+            NameKind::Cursor(_) => unreachable!(),
         }
-        Token::Number { digits: _, value } => push_atom(
-            script,
-            Expr::Literal(value),
-            found.place,
-            atoms,
-        ),
-        Token::Keyword(_) => {
-            if !found.token.is_keyword(Keyword::Me) {
-                return Err(Refusal::Unexpected(found.place));
-            }
-            push_atom(script, Expr::Mine, found.place, atoms)
+    }
+
+    // A column of a cursor, whose name was read.
+    fn read_cell(&mut self, scope: &Scope<'a>, word: Placed<&'a [u8]>) -> Result<usize, Refusal>
+        ensures value { termed self.new result ≡ cell_atom (text_of self.old.reader) (plan_of scope.now.plan.now) (scope_of scope.now.names) word.entry.place word.entry.value.now (place_of self.old.reader) self.old.counts.atoms }
+        ensures text { text_of self.new.reader ≡ text_of self.old.reader }
+        ensures grown { Grown self.old self.new result }
+    {
+        let bound = scope.names.use_name(Asked::Cursor, word)?;
+        let NameKind::Cursor(table) = bound.kind else {
+            // what is no cursor was refused
+            unreachable!()
+        };
+        self.counts.atoms = count_atom(word.place, self.counts.atoms)?;
+        expect(&mut self.reader, Mark::Dot)?;
+        let column = read_column(&mut self.reader, scope.plan, table)?;
+        Ok(push(&mut self.script, Expr::Cell(bound.level, column)))
+    }
+
+    // An atom that begins with a name, which was read.
+    fn read_named(&mut self, scope: &Scope<'a>, word: Placed<&'a [u8]>) -> Result<usize, Refusal>
+        ensures value { termed self.new result ≡ name_atom (text_of self.old.reader) (plan_of scope.now.plan.now) (scope_of scope.now.names) word.entry.place word.entry.value.now (place_of self.old.reader) self.old.counts.atoms (next_is (text_of self.old.reader) (place_of self.old.reader) (is_mark Dot)) }
+        ensures text { text_of self.new.reader ≡ text_of self.old.reader }
+        ensures grown { Grown self.old self.new result }
+    {
+        if self.reader.next_is(Mark::Dot) {
+            return self.read_cell(scope, word);
         }
-        Token::Mark(_) => {
-            if !found.token.is_mark(Mark::OpenParen) {
-                return Err(Refusal::Unexpected(found.place));
+        self.read_plain(scope, word)
+    }
+
+    // What follows an opening parenthesis.
+    #[cycle(expressions)]
+    fn read_pair(&mut self, scope: &Scope<'a>, depth: usize) -> Result<usize, Refusal>
+        ensures value { termed self.new result ≡ pair_with (text_of self.old.reader) (read_expr (text_of self.old.reader) (plan_of scope.now.plan.now) (scope_of scope.now.names) depth) (place_of self.old.reader) self.old.counts.atoms }
+        ensures text { text_of self.new.reader ≡ text_of self.old.reader }
+        ensures grown { Grown self.old self.new result }
+    {
+        let left = self.read_expr(scope, depth)?;
+        let op = read_op(&mut self.reader)?;
+        let right = self.read_expr(scope, depth)?;
+        expect(&mut self.reader, Mark::CloseParen)?;
+        Ok(push(&mut self.script, Expr::Apply(op, left, right)))
+    }
+
+    // An expression with at most so many parentheses one in the other: its place among the script's.
+    #[cycle(expressions)]
+    pub(crate) fn read_expr(&mut self, scope: &Scope<'a>, depth: usize) -> Result<usize, Refusal>
+        ensures value { termed self.new result ≡ read_expr (text_of self.old.reader) (plan_of scope.now.plan.now) (scope_of scope.now.names) depth (place_of self.old.reader) self.old.counts.atoms }
+        ensures text { text_of self.new.reader ≡ text_of self.old.reader }
+        ensures grown { Grown self.old self.new result }
+    {
+        let found = self.reader.next()?;
+        let place = found.place;
+        match found.token {
+            Token::Name(value) => self.read_named(scope, Placed { value, place }),
+            Token::Number { digits: _, value } => self.push_atom(Expr::Literal(value), place),
+            token if token.is(Keyword::Me) => self.push_atom(Expr::Mine, place),
+            token if token.is(Mark::OpenParen) => {
+                if depth == 0 {
+                    return Err(Refusal::LimitPassed(place));
+                }
+                self.read_pair(scope, depth - 1)
             }
-            if depth == 0 {
-                return Err(Refusal::LimitPassed(found.place));
-            }
-            read_pair(reader, plan, names, script, depth - 1, atoms)
+            _ => Err(Refusal::Unexpected(place)),
         }
-        Token::End => Err(Refusal::Unexpected(found.place)),
     }
 }

@@ -6,6 +6,7 @@ mod env;
 mod expressions;
 mod nodes;
 mod openings;
+mod parser;
 mod statements;
 mod values;
 pub mod whole;

@@ -6,7 +6,7 @@ ghost use Rattle.lexis.specs.Meaning.{meaning};
 use grammar::{Keyword, Opening};
 use lexis::Token;
 
-// The statement that a token begins, if it begins one.
+// The statement that a token begins, if it begins one. It is no `TryFrom`, since both types are of other crates.
 pub(crate) fn opening_of(token: Token<'_>) -> Option<Opening>
     ensures { result ≡ opening (meaning token.entry) }
 {

@@ -1,83 +1,73 @@
 // The statement `add`, by recursion over the expressions still due.
-ghost use Rattle.std.specs.Prelude.{◌≡◌, ◌+◌, ◌-◌, ◌*◌, ◌<◌, ◌≤◌, true, map, length};
+ghost use Rattle.std.specs.Prelude.{◌≡◌, ◌+◌, ◌-◌, ◌<◌, true, map, length};
 ghost use Rattle.inplace.specs.Held.{held};
 ghost use Rattle.rules.specs.Lots.{width};
-ghost use Rattle.grammar.specs.Statements.{behind, read_values, read_add};
+ghost use Rattle.grammar.specs.Statements.{read_values, read_add};
 ghost use Rattle.layout.specs.Plans.{plan_of};
-ghost use Rattle.lexis.specs.Meaning.{meaning, text_of, place_of};
+ghost use Rattle.lexis.specs.Meaning.{text_of, place_of};
 ghost use Rattle.script.specs.Nodes.{expr_at};
 ghost use Rattle.script.specs.Ordered.{all_below};
-ghost use Rattle.script.specs.Meaning.{exprs_of, codes_of};
+ghost use Rattle.script.specs.Meaning.{exprs_of};
 ghost use Rattle.clauses.specs.Names.{scope_of};
-ghost use Rattle.reading.specs.Stated.{env_of, stated, Flat};
-ghost use Rattle.reading.specs.Added.{behind_of, valued, Added};
+ghost use Rattle.reading.specs.Stated.{env_of, stated, Told};
+ghost use Rattle.reading.specs.Added.{valued, Added};
 
 use crate::env::Env;
-use crate::expressions::read_expr;
-use crate::statements::{MOST_PARENS, Stated};
-use clauses::{Names, expect_mark, read_lot, width_of};
-use grammar::{Counts, Mark, Refusal};
+use crate::parser::Parser;
+use crate::statements::MOST_PARENS;
+use clauses::{Access, Scope, expect, read_lot};
+use grammar::{Mark, Refusal};
 use inplace::ArrayVec;
 use layout::Plan;
-use lexis::{Reader, Token};
-use script::{Script, Stmt};
+use script::Stmt;
 
-// What stands behind an expression.
-#[derive(Clone, Copy)]
-pub(crate) enum Behind {
-    Comma,
-    Close,
-    Other,
-}
-
-fn behind_of(token: Token<'_>) -> Behind
-    ensures { behind_of result ≡ behind (meaning token.entry) }
-{
-    if token.is_mark(Mark::Comma) {
-        return Behind::Comma;
-    }
-    if token.is_mark(Mark::CloseParen) {
-        return Behind::Close;
-    }
-    Behind::Other
-}
-
-// One expression and so many more, up to the closing parenthesis; their places join those of the expressions before.
-fn read_values(
-    reader: &mut Reader<'_>,
-    plan: &Plan,
-    names: &Names<'_>,
-    script: &mut Script,
-    more: usize,
-    values: &mut ArrayVec<usize, 4>,
-    atoms: usize,
-) -> Result<usize, Refusal>
-    requires nodes { length (exprs_of script.old) ≤ 2 * atoms }
-    requires few { atoms ≤ 128 }
-    requires inside { all_below (length (exprs_of script.old)) (held values.old) ≡ true }
-    requires room { length (held values.old) + more < 4 }
-    ensures value { valued (exprs_of script.new) (held values.new) (place_of reader.new) result ≡ read_values (text_of reader.old) (plan_of plan.now) (scope_of names.now) more (map (expr_at (exprs_of script.old)) (held values.old)) (place_of reader.old) atoms }
-    ensures text { text_of reader.new ≡ text_of reader.old }
-    ensures grown { Added (exprs_of script.old) (exprs_of script.new) (held values.new) atoms result }
-    ensures codes { codes_of script.new ≡ codes_of script.old }
-{
-    let term = read_expr(reader, plan, names, script, MOST_PARENS, atoms)?;
-    let found = reader.next()?;
-    let _ = values.push(term.at);
-    match behind_of(found.token) {
-        Behind::Comma => {
-            if more == 0 {
-                return Err(Refusal::ExpressionCount(found.place));
+impl<'a> Parser<'a> {
+    // One expression and so many more, up to the closing parenthesis; their places join those of the expressions before.
+    fn read_values(
+        &mut self,
+        scope: &Scope<'a>,
+        more: usize,
+        values: &mut ArrayVec<usize, 4>,
+    ) -> Result<(), Refusal>
+        requires inside { all_below (length (exprs_of self.old.script)) (held values.old) ≡ true }
+        requires room { length (held values.old) + more < 4 }
+        ensures value { valued self.new (held values.new) result ≡ read_values (text_of self.old.reader) (plan_of scope.now.plan.now) (scope_of scope.now.names) more (map (expr_at (exprs_of self.old.script)) (held values.old)) (place_of self.old.reader) self.old.counts.atoms }
+        ensures text { text_of self.new.reader ≡ text_of self.old.reader }
+        ensures grown { Added self.old self.new (held values.new) result }
+    {
+        let value = self.read_expr(scope, MOST_PARENS)?;
+        let found = self.reader.next()?;
+        let _ = values.push(value);
+        match found.token {
+            token if token.is(Mark::Comma) => {
+                if more == 0 {
+                    return Err(Refusal::ExpressionCount(found.place));
+                }
+                self.read_values(scope, more - 1, values)
             }
-            read_values(reader, plan, names, script, more - 1, values, term.atoms)
-        }
-        Behind::Close => {
-            if more != 0 {
-                return Err(Refusal::ExpressionCount(found.place));
+            token if token.is(Mark::CloseParen) => {
+                if more != 0 {
+                    return Err(Refusal::ExpressionCount(found.place));
+                }
+                Ok(())
             }
-            Ok(term.atoms)
+            _ => Err(Refusal::Unexpected(found.place)),
         }
-        Behind::Other => Err(Refusal::Unexpected(found.place)),
+    }
+
+    #[tactic(auto, using(crate::proofs::Grows::some_block))]
+    pub(crate) fn read_add(&mut self, env: &Env<'a>, place: usize) -> Result<Stmt, Refusal>
+        ensures value { stated self.new (scope_of env.now.scope.names) result ≡ read_add (text_of self.old.reader) (env_of env.now) place (place_of self.old.reader) self.old.counts }
+        ensures text { text_of self.new.reader ≡ text_of self.old.reader }
+        ensures grown { Told self.old self.new result }
+    {
+        let lot = read_lot(&mut self.reader, &env.scope, Access::Write)?;
+        expect(&mut self.reader, Mark::OpenParen)?;
+        let mut values = ArrayVec::new(0);
+        let more = further_columns(env.scope.plan, lot.table);
+        self.read_values(&env.scope, more, &mut values)?;
+        expect(&mut self.reader, Mark::Semicolon)?;
+        Ok(Stmt::Add { place, lot, values })
     }
 }
 
@@ -86,49 +76,5 @@ fn further_columns(plan: &Plan, table: u32) -> usize
     ensures value { result ≡ width (plan_of plan.now) table - 1 }
     ensures few { result < 4 }
 {
-    width_of(plan, table as usize).saturating_sub(1)
-}
-
-pub(crate) fn read_add<'a>(
-    reader: &mut Reader<'a>,
-    env: &Env<'a>,
-    counts: Counts,
-    script: &mut Script,
-    place: usize,
-) -> Result<Stated, Refusal>
-    requires nodes { length (exprs_of script.old) ≤ 2 * counts.atoms }
-    requires few { counts.atoms ≤ 128 }
-    requires some { 0 < length (codes_of script.old) }
-    ensures value { stated (exprs_of script.new) (codes_of script.new) (scope_of env.now.names) (place_of reader.new) result ≡ read_add (text_of reader.old) (env_of env.now) place (place_of reader.old) counts }
-    ensures text { text_of reader.new ≡ text_of reader.old }
-    ensures grown { Flat (exprs_of script.old) (exprs_of script.new) (codes_of script.old) counts result }
-    ensures codes { codes_of script.new ≡ codes_of script.old }
-{
-    let lot = read_lot(reader, env.plan, &env.names, true)?;
-    expect_mark(reader, Mark::OpenParen)?;
-    let mut values = ArrayVec::new(0);
-    let more = further_columns(env.plan, lot.table);
-    let atoms = read_values(
-        reader,
-        env.plan,
-        &env.names,
-        script,
-        more,
-        &mut values,
-        counts.atoms,
-    )?;
-    expect_mark(reader, Mark::Semicolon)?;
-    Ok(Stated {
-        node: Stmt::Add {
-            place,
-            table: lot.table,
-            owner: lot.owner,
-            values,
-            rest: 0,
-        },
-        counts: Counts {
-            begun: counts.begun,
-            atoms,
-        },
-    })
+    plan.width(table as usize).saturating_sub(1)
 }

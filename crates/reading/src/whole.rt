@@ -5,13 +5,13 @@ ghost use Rattle.grammar.specs.Reading.{read_script, reading};
 ghost use Rattle.layout.specs.Plans.{plan_of};
 ghost use Rattle.reading.specs.Scripted.{scripted};
 
-use crate::blocks::{Close, MOST_STATEMENTS, read_rest};
+use crate::blocks::Close;
 use crate::env::Env;
-use clauses::Names;
-use grammar::{Counts, Refusal};
+use crate::parser::Parser;
+use clauses::{Names, Scope};
+use grammar::Refusal;
 use layout::Plan;
-use lexis::Reader;
-use script::Script;
+use script::{MOST_STATEMENTS, Script};
 
 const MOST_BYTES: usize = 2048;
 
@@ -23,29 +23,22 @@ const MOST_TURNS: usize = 2;
 fn read_script<'a>(plan: &'a Plan, text: &'a [u8]) -> Result<Script, Refusal>
     ensures { scripted result ≡ and_then (read_script (plan_of plan.now) text.now) (λ b. Ok b.code) }
 {
+    let names = Names::new();
     let env = Env {
-        plan,
-        names: Names::new(),
+        scope: Scope { plan, names },
         blocks: MOST_BLOCKS,
         turns: MOST_TURNS,
     };
-    let none = Counts { begun: 0, atoms: 0 };
-    let mut reader = Reader::new(text);
-    let mut script = Script::new();
-    let whole = read_rest(
-        &mut reader,
-        env,
-        none,
-        &mut script,
-        MOST_STATEMENTS,
-        Close::End,
-    )?;
-    script.begin_with(whole.block);
+    let mut parser = Parser::new(text);
+    let whole = parser.read_rest(env, MOST_STATEMENTS, Close::End)?;
+    let mut script = parser.script;
+    script.begin_with(whole);
     Ok(script)
 }
 
 // Reads a text over a plan: to a script, or to the refusal of the first thing in it that is wrong. It allocates nothing, and
 // the text is read where it stands.
+#[tactic(auto, unfolding(grammar::specs::Reading::reading))]
 pub fn read(plan: &Plan, text: &[u8]) -> Result<Script, Refusal>
     ensures { scripted result ≡ reading (plan_of plan.now) text.now }
 {

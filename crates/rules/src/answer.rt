@@ -1,7 +1,7 @@
 use crate::refusal::Refusal;
 
 // What a call on a live or closed bench returns, all of it.
-#[derive(Clone, Copy)]
+#[derive(Clone, Copy, PartialEq, Eq)]
 pub enum Answer {
     // A post was taken.
     Done,

@@ -1,146 +1,150 @@
 -- A block is run by its first statement and what follows it.
-use Rattle.std.proofs.Common.{◌≡◌, ℕ, suc, Bool, true, false, cond, eqb, List, map, sym, ap, ◌∙◌, subst}
+use Rattle.std.proofs.Common.{◌≡◌, ℕ, suc, Bool, true, false, cond, eqb, List, map, sym, ap, ◌∙◌, subst, rules}
 use mathlib.Core.Path.{fun_ext}
+use mathlib.Core.List.{map-map}
 use Rattle.std.proofs.lemmas.Bool.{cond-true}
 use Rattle.rules.specs.Plans.{Plan}
-use Rattle.rules.specs.Scripts.{Index, Mark, Expr, Code}
+use Rattle.rules.specs.Scripts.{Index, Mark, Code}
 use Rattle.rules.specs.Scripts.Code.{stop, var, set, if, when, add, drop, alter}
 use Rattle.rules.specs.Lots.{upd}
 use Rattle.rules.specs.Evaluation.{Valuation, Cursors, State, eval, exec, whom, count_steps, do_set, do_add, do_drop, do_alter}
 use Rattle.rules.specs.Scoping.{nameable}
-use Rattle.script.specs.declared.script.Script.{Script}
+use Rattle.script.specs.declared.node.Node.{Node}
 use Rattle.script.specs.declared.node.Stmt.{Stmt}
-use Rattle.script.specs.Nodes.{expr_at, block_at, code_of}
-use Rattle.script.specs.Meaning.{exprs_of}
-use Rattle.lots.specs.declared.store.Store.{Store}
+use Rattle.script.specs.Nodes.{stmt_of, block_at, code_of}
+use Rattle.script.specs.Meaning.{exprs_of, codes_of}
+use Rattle.layout.specs.declared.lot_id.LotId.{LotId}
 use Rattle.runner.specs.declared.env.Env.{Env}
 use Rattle.runner.specs.declared.locals.Locals.{Locals}
-use Rattle.runner.specs.Names.{val_of, cursors_of, vars_of, Renamed}
-use Rattle.runner.specs.OfRows.{row_value}
-use Rattle.runner.specs.Standing.{Stands, Does, DoesLocally, LotThere, Fits, Runs}
+use Rattle.runner.specs.declared.machine.Machine.{Machine}
+use Rattle.runner.specs.Names.{val_of, cursors_of, depth_of, vars_of, Renamed}
+use Rattle.runner.specs.Values.{expr_in, block_in, value_in, row_value}
+use Rattle.runner.specs.Standing.{Stands, Does, LotThere, Fits, Runs, RunsUnder}
 use Rattle.runner.proofs.Fitting.{fits_var, fits_set, fits_if, fits_when, fits_add, fits_drop, fits_alter}
 
 -- one step
-abbrev pub Begun : Locals → Locals → Type 0
-Begun l m = DoesLocally l m (count_steps 1)
+abbrev pub Begun : Machine → Machine → Type 0
+Begun was is = Does was is (count_steps 1)
 
--- the block by what it stands for
-pub as_read : (n d : ℕ) (val : Valuation) (cs : Cursors) (code whole : Code) (l : Locals) (s : Store) (m : Locals) (t : Store)
-    → whole ≡ code → Runs n code d val cs l s m t → Runs n whole d val cs l s m t
-as_read n d val cs code whole l s m t e r = subst (λ z. Runs n z d val cs l s m t) (sym e) r
+-- a run by the parts of what it is run in
+abbrev pub RunsBy : Machine → Machine → ℕ → Code → ℕ → Valuation → Cursors → Type 0
+RunsBy was is n code d val cs =
+    (plan : Plan) → Fits plan n code d val → (st : State) → Stands plan was st → Stands plan is (exec plan code d val cs st)
 
--- under one name more
-pub renamed_runs : (env inner : Env) (val : Valuation) (cs : Cursors) (code : Code) (l : Locals) (s : Store) (m : Locals) (t : Store)
-    → Renamed env inner val cs → Runs inner.vendors code inner.depth (val_of inner) (cursors_of inner) l s m t
-    → nameable env.depth ≡ true → Runs env.vendors code (suc env.depth) val cs l s m t
-renamed_runs env inner val cs code l s m t e r room =
-    let depth_is = e.depth ∙ cond-true (nameable env.depth) (suc env.depth) env.depth room in
-    let val_is = e.val_is ∙ cond-true (nameable env.depth) val (val_of env) room in
-    let cs_are = e.cursors_are ∙ cond-true (nameable env.depth) cs (cursors_of env) room in
-    subst (λ z. Runs env.vendors code (suc env.depth) val z l s m t) cs_are
-    (subst (λ z. Runs env.vendors code (suc env.depth) z (cursors_of inner) l s m t) val_is
-    (subst (λ z. Runs env.vendors code z (val_of inner) (cursors_of inner) l s m t) depth_is
-    (subst (λ z. Runs z code inner.depth (val_of inner) (cursors_of inner) l s m t) e.vendors r)))
+pub runs_by : (env : Env) (was is : Machine) (n d : ℕ) (val : Valuation) (cs : Cursors) (code : Code) → env.vendors ≡ n → depth_of env ≡ d → val_of env ≡ val
+    → cursors_of env ≡ cs → Runs env code was is → RunsBy was is n code d val cs
+runs_by env was is n d val cs code vendors depth val_is cursors_are r =
+    subst (λ z. RunsBy was is n code d val z) cursors_are
+    (subst (λ z. RunsBy was is n code d z (cursors_of env)) val_is
+    (subst (λ z. RunsBy was is n code z (val_of env) (cursors_of env)) depth
+    (subst (λ z. RunsBy was is z code (depth_of env) (val_of env) (cursors_of env)) vendors r)))
 
--- one of two blocks
-branch : (plan : Plan) (n d : ℕ) (val : Valuation) (cs : Cursors) (first second picked : Code) (b : Bool) (l : Locals) (s : Store) (m : Locals) (t : Store) (st : State)
-    → Fits plan n first d val → Fits plan n second d val → picked ≡ cond b first second → Runs n picked d val cs l s m t → Stands plan l s st
-    → Stands plan m t (cond b (exec plan first d val cs st) (exec plan second d val cs st))
-branch plan n d val cs first second picked true l s m t st f g e r h = as_read n d val cs picked first l s m t (sym e) r plan f st h
-branch plan n d val cs first second picked false l s m t st f g e r h = as_read n d val cs picked second l s m t (sym e) r plan g st h
+-- by what a block is
+pub as_read : (env : Env) (was is : Machine) (code whole : Code) → whole ≡ code → Runs env code was is → Runs env whole was is
+as_read env was is code whole e r = subst (λ z. Runs env z was is) (sym e) r
 
--- what a row is asked for, in the rules' words
-row_value_is : (script : Script) (env : Env) (locals : Locals) (at : ℕ) (vars : ℕ → ℕ) → nameable env.depth ≡ true → vars_of locals ≡ vars
-    → row_value script env locals at ≡ (λ row. eval (val_of env) (upd (cursors_of env) env.depth row) vars (expr_at (exprs_of script) at))
-unfolding row_value
-row_value_is script env locals at vars room e =
-    fun_ext (λ row. ap (λ cs. eval (val_of env) cs (vars_of locals) (expr_at (exprs_of script) at)) (cond-true {A = Cursors} (nameable env.depth) (upd (cursors_of env) env.depth row) (cursors_of env) room)
-    ∙ ap (λ vs. eval (val_of env) (upd (cursors_of env) env.depth row) vs (expr_at (exprs_of script) at)) e)
+module _ (env : Env) where
+  -- under one name more
+  pub renamed_runs : (inner : Env) (val : Valuation) (cs : Cursors) (body : ℕ) (was is : Machine) → inner.script.now ≡ env.script.now
+      → Renamed env inner val cs → Runs inner (block_in inner body) was is → nameable (depth_of env) ≡ true → RunsUnder env val cs (block_in env body) was is
+  renamed_runs inner val cs body was is script e r room =
+      runs_by inner was is _ _ _ _ (block_in env body) e.vendors (e.depth ∙ cond-true (nameable (depth_of env)) (suc (depth_of env)) (depth_of env) room)
+      (e.val_is ∙ cond-true (nameable (depth_of env)) val (val_of env) room) (e.cursors_are ∙ cond-true (nameable (depth_of env)) cs (cursors_of env) room)
+      (as_read inner was is _ _ (sym (ap (λ z. block_at (codes_of z) body) script)) r)
 
-module _ (n d : ℕ) (val : Valuation) (cs : Cursors) where
-  pub stop_runs : (l : Locals) (s : Store) → Runs n stop d val cs l s l s
+  -- by what the block begins with
+  pub begins_with : (was is : Machine) (block : ℕ) (read : Node) (stmt : Stmt)
+      → block_in env block ≡ code_of (exprs_of env.script.now) (codes_of env.script.now) read → read.stmt ≡ stmt
+      → Runs env (stmt_of (exprs_of env.script.now) (codes_of env.script.now) stmt (block_at (codes_of env.script.now) read.rest)) was is → Runs env (block_in env block) was is
+  begins_with was is block read stmt meaning same r = search rules
+
+  pub stop_runs : (was : Machine) → Runs env stop was was
   unfolding exec
-  stop_runs l s plan f st h = h
+  stop_runs was plan f st h = h
 
-  pub var_runs : (mark : Mark Index) (rest : Code) (l one m : Locals) (s t : Store)
-      → (nameable d ≡ true → DoesLocally l one (do_set d 0))
-      → (nameable d ≡ true → Runs n rest (suc d) val cs one s m t) → Runs n (var mark rest) d val cs l s m t
-  unfolding exec
-  var_runs mark rest l one m s t a r plan f st h =
-      let p = fits_var plan n d val mark rest f in
-      r p.name plan p.rest_fits (do_set d 0 st) (a p.name plan s st h)
+  module _ (was one is : Machine) where
+    pub var_runs : (level : ℕ) (mark : Mark Index) (rest : Code) → level ≡ depth_of env → (nameable level ≡ true → Does was one (do_set level 0))
+        → (nameable (depth_of env) ≡ true → RunsUnder env (val_of env) (cursors_of env) rest one is) → Runs env (var mark rest) was is
+    unfolding exec
+    var_runs level mark rest e a r plan f st h =
+        let p = fits_var plan env.vendors (depth_of env) (val_of env) mark rest f in
+        r p.name plan p.rest_fits _ (subst (λ k. nameable k ≡ true → Does was one (do_set k 0)) e a p.name plan st h)
 
-  pub set_runs : (place level x : ℕ) (e : Expr) (rest : Code) (l one m : Locals) (s t : Store) → x ≡ eval val cs (vars_of l) e
-      → (nameable level ≡ true → DoesLocally l one (do_set level x))
-      → Runs n rest d val cs one s m t → Runs n (set place level e rest) d val cs l s m t
-  unfolding exec
-  set_runs place level x e rest l one m s t value a r plan f st h =
-      let p = fits_set plan n d val place level e rest f in
-      let is : x ≡ eval val cs st.vars e = value ∙ ap (λ vs. eval val cs vs e) h.vars in
-      r plan p.rest_fits _ (subst (λ y. Stands plan one s (do_set level y st)) is (a p.name plan s st h))
+    pub set_runs : (place level at x : ℕ) (rest : Code) → x ≡ value_in env was.locals at → (nameable level ≡ true → Does was one (do_set level x))
+        → Runs env rest one is → Runs env (set place level (expr_in env at) rest) was is
+    unfolding exec
+    set_runs place level at x rest value a r plan f st h =
+        let e = expr_in env at in
+        let p = fits_set plan env.vendors (depth_of env) (val_of env) place level e rest f in
+        let same : x ≡ eval (val_of env) (cursors_of env) st.vars e = value ∙ ap (λ vs. eval (val_of env) (cursors_of env) vs e) h.vars in
+        r plan p.rest_fits _ (subst (λ y. Stands plan one (do_set level y st)) same (a p.name plan st h))
 
-  pub if_runs : (x : ℕ) (e : Expr) (first second rest picked : Code) (l one two m : Locals) (s u t : Store) → x ≡ eval val cs (vars_of l) e
-      → picked ≡ cond (eqb x 0) second first → Begun l one → Runs n picked d val cs one s two u → Runs n rest d val cs two u m t
-      → Runs n (if e first second rest) d val cs l s m t
-  unfolding exec
-  if_runs x e first second rest picked l one two m s u t value chosen begun r q plan f st h =
-      let p = fits_if plan n d val e first second rest f in
-      let is : x ≡ eval val cs st.vars e = value ∙ ap (λ vs. eval val cs vs e) h.vars in
-      q plan p.rest_fits _
-      (branch plan n d val cs second first picked (eqb (eval val cs st.vars e) 0) one s two u (count_steps 1 st) p.second_fits p.first_fits
-      (chosen ∙ ap (λ y. cond (eqb y 0) second first) is) r (begun plan s st h))
+  -- one of two blocks, picked by its number
+  branch : (plan : Plan) (first second taken : ℕ) (b : Bool) (was is : Machine) (st : State) → Fits plan env.vendors (block_in env first) (depth_of env) (val_of env)
+      → Fits plan env.vendors (block_in env second) (depth_of env) (val_of env) → taken ≡ cond b first second
+      → Runs env (block_in env taken) was is → Stands plan was st
+      → Stands plan is (cond b (exec plan (block_in env first) (depth_of env) (val_of env) (cursors_of env) st) (exec plan (block_in env second) (depth_of env) (val_of env) (cursors_of env) st))
+  branch plan first second taken true was is st f g e r h = as_read env was is _ _ (sym (ap (block_in env) e)) r plan f st h
+  branch plan first second taken false was is st f g e r h = as_read env was is _ _ (sym (ap (block_in env) e)) r plan g st h
 
-  pub when_runs : (i j : Index) (first second rest picked : Code) (l one two m : Locals) (s u t : Store)
-      → picked ≡ cond (eqb (whom val i) (whom val j)) first second → Begun l one → Runs n picked d val cs one s two u → Runs n rest d val cs two u m t
-      → Runs n (when i j first second rest) d val cs l s m t
-  unfolding exec
-  when_runs i j first second rest picked l one two m s u t chosen begun r q plan f st h =
-      let p = fits_when plan n d val i j first second rest f in
-      q plan p.rest_fits _
-      (branch plan n d val cs first second picked (eqb (whom val i) (whom val j)) one s two u (count_steps 1 st) p.first_fits p.second_fits chosen r (begun plan s st h))
+  module _ (was one two is : Machine) (first second rest taken : ℕ) where
+    pub if_runs : (at x : ℕ) → x ≡ value_in env was.locals at → taken ≡ cond (eqb x 0) second first → Begun was one → Runs env (block_in env taken) one two
+        → Runs env (block_in env rest) two is → Runs env (if (expr_in env at) (block_in env first) (block_in env second) (block_in env rest)) was is
+    unfolding exec
+    if_runs at x value chosen begun r q plan f st h =
+        let e = expr_in env at in
+        let p = fits_if plan env.vendors (depth_of env) (val_of env) e (block_in env first) (block_in env second) (block_in env rest) f in
+        let same : x ≡ eval (val_of env) (cursors_of env) st.vars e = value ∙ ap (λ vs. eval (val_of env) (cursors_of env) vs e) h.vars in
+        let picked : taken ≡ cond (eqb (eval (val_of env) (cursors_of env) st.vars e) 0) second first = chosen ∙ ap (λ y. cond (eqb y 0) second first) same in
+        search (rules, branch)
 
-  pub add_runs : (place table : ℕ) (i : Index) (es : List Expr) (row : List ℕ) (rest : Code) (l one m : Locals) (s u t : Store) (v : ℕ) → v ≡ whom val i
-      → row ≡ map (eval val cs (vars_of l)) es
-      → ((plan : Plan) (st : State) → LotThere plan table v → Stands plan l s st → Stands plan one u (do_add plan table v row st))
-      → Runs n rest d val cs one u m t → Runs n (add place table i es rest) d val cs l s m t
-  unfolding exec
-  add_runs place table i es row rest l one m s u t v owner values a r plan f st h =
-      let p = fits_add plan n d val place table i es rest f in
-      let row_is : row ≡ map (eval val cs st.vars) es = values ∙ ap (λ vs. map (eval val cs vs) es) h.vars in
-      let there = subst (λ w. LotThere plan table w) (sym owner) p.there in
-      r plan p.rest_fits _
-      (subst (λ w. Stands plan one u (do_add plan table w (map (eval val cs st.vars) es) st)) owner
-      (subst (λ xs. Stands plan one u (do_add plan table v xs st)) row_is (a plan st there h)))
+    pub when_runs : (i j : Index) → taken ≡ cond (eqb (whom (val_of env) i) (whom (val_of env) j)) first second → Begun was one
+        → Runs env (block_in env taken) one two → Runs env (block_in env rest) two is
+        → Runs env (when i j (block_in env first) (block_in env second) (block_in env rest)) was is
+    unfolding exec
+    when_runs i j chosen begun r q plan f st h =
+        let p = fits_when plan env.vendors (depth_of env) (val_of env) i j (block_in env first) (block_in env second) (block_in env rest) f in
+        search (rules, branch)
 
-module _ (script : Script) (env : Env) where
-  pub drop_runs : (place table : ℕ) (i : Index) (at : ℕ) (rest : Code) (l one m : Locals) (s u t : Store) (v : ℕ) → v ≡ whom (val_of env) i
-      → Does l s one u (do_drop table v (row_value script env l at))
-      → Runs env.vendors rest env.depth (val_of env) (cursors_of env) one u m t
-      → Runs env.vendors (drop place table i (expr_at (exprs_of script) at) rest) env.depth (val_of env) (cursors_of env) l s m t
-  unfolding exec
-  drop_runs place table i at rest l one m s u t v owner a r plan f st h =
-      let p = fits_drop plan env.vendors env.depth (val_of env) place table i (expr_at (exprs_of script) at) rest f in
-      r plan p.rest_fits _
-      (subst (λ w. Stands plan one u (do_drop table w (λ row. eval (val_of env) (upd (cursors_of env) env.depth row) st.vars (expr_at (exprs_of script) at)) st)) owner
-      (subst (λ g. Stands plan one u (do_drop table v g st)) (row_value_is script env l at st.vars p.name h.vars) (a plan st h)))
+  -- what a row is asked for, in the rules' words
+  row_value_is : (locals : Locals) (at : ℕ) (vars : ℕ → ℕ) → nameable (depth_of env) ≡ true → vars_of locals ≡ vars
+      → row_value env locals at ≡ (λ row. eval (val_of env) (upd (cursors_of env) (depth_of env) row) vars (expr_in env at))
+  unfolding row_value
+  row_value_is locals at vars room e =
+      fun_ext (λ row. cc)
 
-  pub alter_runs : (place table : ℕ) (i : Index) (column value at : ℕ) (rest : Code) (l one m : Locals) (s u t : Store) (v : ℕ) → v ≡ whom (val_of env) i
-      → Does l s one u (do_alter table v column (row_value script env l value) (row_value script env l at))
-      → Runs env.vendors rest env.depth (val_of env) (cursors_of env) one u m t
-      → Runs env.vendors (alter place table i column (expr_at (exprs_of script) value) (expr_at (exprs_of script) at) rest) env.depth (val_of env) (cursors_of env) l s m t
-  unfolding exec
-  alter_runs place table i column value at rest l one m s u t v owner a r plan f st h =
-      let p = fits_alter plan env.vendors env.depth (val_of env) place table i column (expr_at (exprs_of script) value) (expr_at (exprs_of script) at) rest f in
-      let under = λ (k : ℕ) (row : List ℕ). eval (val_of env) (upd (cursors_of env) env.depth row) st.vars (expr_at (exprs_of script) k) in
-      r plan p.rest_fits _
-      (subst (λ w. Stands plan one u (do_alter table w column (under value) (under at) st)) owner
-      (subst (λ g. Stands plan one u (do_alter table v column (under value) g st)) (row_value_is script env l at st.vars p.name h.vars)
-      (subst (λ g. Stands plan one u (do_alter table v column g (row_value script env l at) st)) (row_value_is script env l value st.vars p.name h.vars) (a plan st h))))
+  module _ (was one is : Machine) (place table : ℕ) (i : Index) (lot : LotId ℕ) (meant : lot ≡ record { table = table; vendor = whom (val_of env) i }) (rest : Code) where
+    pub add_runs : (ats row : List ℕ) → row ≡ map (value_in env was.locals) ats
+        → ((plan : Plan) (st : State) → LotThere plan lot.table lot.vendor → Stands plan was st → Stands plan one (do_add plan lot.table lot.vendor row st))
+        → Runs env rest one is → Runs env (add place table i (map (expr_in env) ats) rest) was is
+    unfolding exec
+    add_runs ats row values a r plan f st h =
+        let es = map (expr_in env) ats in
+        let p = fits_add plan env.vendors (depth_of env) (val_of env) place table i es rest f in
+        let row_is : row ≡ map (eval (val_of env) (cursors_of env) st.vars) es =
+        values ∙ sym (map-map (eval (val_of env) (cursors_of env) (vars_of was.locals)) (expr_in env) ats) ∙ ap (λ vs. map (eval (val_of env) (cursors_of env) vs) es) h.vars in
+        let there = subst (λ (k : LotId ℕ). LotThere plan k.table k.vendor) (sym meant) p.there in
+        r plan p.rest_fits _
+        (subst (λ (k : LotId ℕ). Stands plan one (do_add plan k.table k.vendor (map (eval (val_of env) (cursors_of env) st.vars) es) st)) meant
+        (subst (λ xs. Stands plan one (do_add plan lot.table lot.vendor xs st)) row_is (a plan st there h)))
 
--- What a block begins with, and the block that was picked.
-pub begins : (es : List Expr) (cs : List Code) (block : ℕ) (s node : Stmt) → block_at cs block ≡ code_of es cs s → s ≡ node → block_at cs block ≡ code_of es cs node
-begins es cs block s node m i = m ∙ ap (code_of es cs) i
+    pub drop_runs : (at : ℕ) → Does was one (do_drop lot.table lot.vendor (row_value env was.locals at)) → Runs env rest one is
+        → Runs env (drop place table i (expr_in env at) rest) was is
+    unfolding exec
+    drop_runs at a r plan f st h =
+        let p = fits_drop plan env.vendors (depth_of env) (val_of env) place table i (expr_in env at) rest f in
+        let under = λ (row : List ℕ). eval (val_of env) (upd (cursors_of env) (depth_of env) row) st.vars (expr_in env at) in
+        r plan p.rest_fits _
+        (subst (λ (k : LotId ℕ). Stands plan one (do_drop k.table k.vendor under st)) meant
+        (subst (λ g. Stands plan one (do_drop lot.table lot.vendor g st)) (row_value_is was.locals at st.vars p.name h.vars) (a plan st h)))
 
-pub picks : (cs : List Code) (b : Bool) (r first second : ℕ) → r ≡ cond b first second → block_at cs r ≡ cond b (block_at cs first) (block_at cs second)
-picks cs true r first second e = ap (block_at cs) e
-picks cs false r first second e = ap (block_at cs) e
+    pub alter_runs : (column value at : ℕ) → Does was one (do_alter lot.table lot.vendor column (row_value env was.locals value) (row_value env was.locals at)) → Runs env rest one is
+        → Runs env (alter place table i column (expr_in env value) (expr_in env at) rest) was is
+    unfolding exec
+    alter_runs column value at a r plan f st h =
+        let p = fits_alter plan env.vendors (depth_of env) (val_of env) place table i column (expr_in env value) (expr_in env at) rest f in
+        let under = λ (k : ℕ) (row : List ℕ). eval (val_of env) (upd (cursors_of env) (depth_of env) row) st.vars (expr_in env k) in
+        r plan p.rest_fits _
+        (subst (λ (k : LotId ℕ). Stands plan one (do_alter k.table k.vendor column (under value) (under at) st)) meant
+        (subst (λ g. Stands plan one (do_alter lot.table lot.vendor column (under value) g st)) (row_value_is was.locals at st.vars p.name h.vars)
+        (subst (λ g. Stands plan one (do_alter lot.table lot.vendor column g (row_value env was.locals at) st)) (row_value_is was.locals value st.vars p.name h.vars) (a plan st h))))

@@ -1,4 +1,5 @@
 pub mod Names
-pub mod OfRows
+pub mod Values
 pub mod Standing
+pub mod Turns
 pub mod Whole

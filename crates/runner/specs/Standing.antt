@@ -1,5 +1,5 @@
 -- What a run has come to, as the code holds it.
-use Rattle.std.specs.Prelude.{◌≡◌, ℕ, ◌<◌, ◌≤◌, min, true, length}
+use Rattle.std.specs.Prelude.{◌≡◌, ℕ, suc, ◌<◌, ◌≤◌, min, true, length}
 use Rattle.rules.specs.Plans.{Plan, sound}
 use Rattle.rules.specs.Scripts.{Code}
 use Rattle.rules.specs.Lots.{last_word}
@@ -7,27 +7,23 @@ use Rattle.rules.specs.Evaluation.{Valuation, Cursors, State, exec}
 use Rattle.rules.specs.Writes.{steady}
 use Rattle.rules.specs.Scoping.{scoped, most_names}
 use Rattle.rules.specs.Inside.{inside}
-use Rattle.lots.specs.declared.store.Store.{Store}
 use Rattle.lots.specs.Stores.{lots_of, pairs_of, plan_pairs}
-use Rattle.runner.specs.declared.locals.Locals.{Locals}
-use Rattle.runner.specs.Names.{vars_of}
+use Rattle.runner.specs.declared.env.Env.{Env}
+use Rattle.runner.specs.declared.machine.Machine.{Machine}
+use Rattle.runner.specs.Names.{val_of, cursors_of, depth_of, vars_of}
 
 -- The variables, lots and steps of the code are those of a state of the rules, on a bench with this plan. The code counts
 -- steps up to the largest number.
-pub record Stands (plan : Plan) (locals : Locals) (store : Store) (st : State) : Type 0 where
-  pub vars : vars_of locals ≡ st.vars
-  pub lots : lots_of store ≡ st.lots
-  pub steps : locals.steps ≡ min st.steps last_word
-  pub pairs : pairs_of store ≡ plan_pairs plan
+pub record Stands (plan : Plan) (machine : Machine) (st : State) : Type 0 where
+  pub vars : vars_of machine.locals ≡ st.vars
+  pub lots : lots_of machine.lots.now ≡ st.lots
+  pub steps : machine.locals.steps ≡ min st.steps last_word
+  pub pairs : pairs_of machine.lots.now ≡ plan_pairs plan
 
 -- What a statement makes of the variables and the lots that the code holds: it does `f`, whatever state of the rules they
 -- stand for.
-abbrev pub Does : Locals → Store → Locals → Store → (State → State) → Type 0
-Does l s m t f = (plan : Plan) (st : State) → Stands plan l s st → Stands plan m t (f st)
-
--- The same, where it leaves the lots alone.
-abbrev pub DoesLocally : Locals → Locals → (State → State) → Type 0
-DoesLocally l m f = (plan : Plan) (store : Store) (st : State) → Stands plan l store st → Stands plan m store (f st)
+abbrev pub Does : Machine → Machine → (State → State) → Type 0
+Does was is f = (plan : Plan) (st : State) → Stands plan was st → Stands plan is (f st)
 
 -- A lot of a sound plan.
 pub record LotThere (plan : Plan) (table vendor : ℕ) : Type 0 where
@@ -47,7 +43,14 @@ pub record Fits (plan : Plan) (vendors : ℕ) (code : Code) (depth : ℕ) (val :
   pub mine : val.mine < plan.vendors
   pub indexes : (level : ℕ) → val.indexes level < plan.vendors
 
--- A run of a block that leads from one pair of variables and lots to another does what the rules say.
-abbrev pub Runs : ℕ → Code → ℕ → Valuation → Cursors → Locals → Store → Locals → Store → Type 0
-Runs vendors code depth val cursors l s m t =
-    (plan : Plan) → Fits plan vendors code depth val → (st : State) → Stands plan l s st → Stands plan m t (exec plan code depth val cursors st)
+-- A run of a block that leads from one machine to another does what the rules say.
+abbrev pub Runs : Env → Code → Machine → Machine → Type 0
+Runs env code was is =
+    (plan : Plan) → Fits plan env.vendors code (depth_of env) (val_of env) → (st : State) → Stands plan was st
+    → Stands plan is (exec plan code (depth_of env) (val_of env) (cursors_of env) st)
+
+-- The same, under one name more.
+abbrev pub RunsUnder : Env → Valuation → Cursors → Code → Machine → Machine → Type 0
+RunsUnder env val cursors code was is =
+    (plan : Plan) → Fits plan env.vendors code (suc (depth_of env)) val → (st : State) → Stands plan was st
+    → Stands plan is (exec plan code (suc (depth_of env)) val cursors st)

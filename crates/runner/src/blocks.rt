@@ -1,158 +1,127 @@
 // Running a block over the lots.
-ghost use Rattle.std.specs.Prelude.{◌≡◌, [], if◌then◌else◌, slice_index_or};
-ghost use Rattle.script.specs.Nodes.{block_at};
-ghost use Rattle.script.specs.Meaning.{codes_of};
-ghost use Rattle.lots.specs.Rows.{row_of};
+ghost use Rattle.std.specs.Prelude.{◌≡◌, [], length, slice_index_or};
+ghost use Rattle.inplace.specs.Held.{held};
 ghost use Rattle.lots.specs.Stores.{lots_of};
-ghost use Rattle.runner.specs.Names.{val_of, cursors_of};
+ghost use Rattle.runner.specs.Values.{block_in};
 ghost use Rattle.runner.specs.Standing.{Runs};
+ghost use Rattle.runner.specs.Turns.{Turned, Walked};
 
-use crate::env::Env;
-use crate::evaluate::evaluate;
-use crate::flat::{add_row, alter_rows, begin, drop_rows, row_of, set_var};
-use crate::locals::Locals;
+use crate::env::{Env, Name};
+use crate::evaluate::{evaluate, row_of};
+use crate::machine::Machine;
+use layout::LotId;
 use lots::{Row, Store};
-use script::{Script, Stmt};
+use script::{Stmt, Valuation};
 
-// One of two blocks.
-fn either(chosen: bool, first: usize, second: usize) -> usize
-    ensures { result ≡ (if chosen then first else second) }
+// The row of a lot at a place, newest first; one without cells where there is none, as in the rules.
+fn row_in(lots: &Store, lot: LotId<usize>, place: usize) -> Row
+    ensures { held result ≡ slice_index_or (lots_of lots.now lot.table lot.vendor).rows place [] }
 {
-    if chosen { first } else { second }
+    lots.row_at(lot, place).unwrap_or(Row::new(0))
 }
 
-// The row of a lot at a place, newest first; one without cells where there is none.
-fn row_in(lots: &Store, table: usize, vendor: usize, place: usize) -> Row
-    ensures { row_of result ≡ slice_index_or (lots_of lots.now table vendor).rows place [] }
-{
-    match lots.row_at(table, vendor, place) {
-        Some(row) => row,
-        None => Row::new(),
+impl<'l> Machine<'l> {
+    // The turns of `vendors`: one for each vendor.
+    #[cycle(run)]
+    fn run_vendors(&mut self, env: &Env, body: usize)
+        ensures same_reference { self.new.lots.ghost_name ≡ self.old.lots.ghost_name }
+        ensures does { Turned env.now (block_in env.now body) env.now.vendors self.old self.new }
+    {
+        for vendor in 0..env.vendors {
+            self.begin();
+            let inner = env.with(Name::Index(vendor));
+            self.run_block(&inner, body);
+        }
     }
-}
 
-// Runs a block and what it holds.
-pub(crate) fn run_block(
-    script: &Script,
-    env: &Env,
-    block: usize,
-    locals: &mut Locals,
-    lots: &mut Store,
-)
-    ensures { Runs env.now.vendors (block_at (codes_of script.now) block) env.now.depth (val_of env.now) (cursors_of env.now) locals.old lots.old locals.new lots.new }
-{
-    let Some(stmt) = script.stmt(block) else {
-        return;
-    };
-    match stmt {
-        Stmt::Var { rest, .. } => {
-            set_var(locals, env.depth, 0);
-            let inner = env.with_var();
-            run_block(script, &inner, rest, locals, lots);
+    // The turns of `each`: one for each row that the lot has where they begin. They go by place, since the body may write to
+    // other lots meanwhile.
+    #[cycle(run)]
+    fn run_each(&mut self, env: &Env, lot: LotId<usize>, body: usize)
+        ensures same_reference { self.new.lots.ghost_name ≡ self.old.lots.ghost_name }
+        ensures does { Walked env.now lot.table lot.vendor (block_in env.now body) (length (lots_of self.old.lots.now lot.table lot.vendor).rows) self.old self.new }
+    {
+        let count = self.lots.count(lot);
+        for place in 0..count {
+            self.begin();
+            let inner = env.with(Name::Cursor(row_in(self.lots, lot, place)));
+            self.run_block(&inner, body);
         }
-        Stmt::Set {
-            level,
-            value,
-            rest,
-            ..
-        } => {
-            let x = evaluate(script, env, locals, value);
-            set_var(locals, level, x);
-            run_block(script, env, rest, locals, lots);
-        }
-        Stmt::If {
-            condition,
-            first,
-            second,
-            rest,
-        } => {
-            let x = evaluate(script, env, locals, condition);
-            let taken = either(x == 0, second, first);
-            begin(locals);
-            run_block(script, env, taken, locals, lots);
-            run_block(script, env, rest, locals, lots);
-        }
-        Stmt::When {
-            left,
-            right,
-            first,
-            second,
-            rest,
-        } => {
-            let taken = either(env.whom(left) == env.whom(right), first, second);
-            begin(locals);
-            run_block(script, env, taken, locals, lots);
-            run_block(script, env, rest, locals, lots);
-        }
-        Stmt::Vendors { body, rest } => {
-            begin(locals);
-            for vendor in 0..env.vendors {
-                begin(locals);
-                let inner = env.with_index(vendor);
-                run_block(script, &inner, body, locals, lots);
+    }
+
+    // Runs a block and what it holds. It is long, since it has an arm for each statement.
+    #[cycle(run)]
+    pub(crate) fn run_block(&mut self, env: &Env, block: usize)
+        ensures same_reference { self.new.lots.ghost_name ≡ self.old.lots.ghost_name }
+        ensures does { Runs env.now (block_in env.now block) self.old self.new }
+    {
+        let Some(node) = env.script.stmt(block) else {
+            return;
+        };
+        match node.stmt {
+            Stmt::Var { .. } => {
+                self.set_var(env.names.len(), 0);
+                let inner = env.with(Name::Variable);
+                self.run_block(&inner, node.rest);
             }
-            run_block(script, env, rest, locals, lots);
-        }
-        Stmt::Each {
-            table,
-            owner,
-            body,
-            rest,
-        } => {
-            let vendor = env.whom(owner) as usize;
-            let count = lots.count(table as usize, vendor);
-            begin(locals);
-            for place in 0..count {
-                begin(locals);
-                let inner = env.with_cursor(row_in(lots, table as usize, vendor, place));
-                run_block(script, &inner, body, locals, lots);
+            Stmt::Set { level, value, .. } => {
+                let x = evaluate(env, &self.locals, value);
+                self.set_var(level, x);
+                self.run_block(env, node.rest);
             }
-            run_block(script, env, rest, locals, lots);
-        }
-        Stmt::Add {
-            table,
-            owner,
-            values,
-            rest,
-            ..
-        } => {
-            let row = row_of(script, env, locals, values);
-            add_row(locals, lots, table as usize, env.whom(owner) as usize, row);
-            run_block(script, env, rest, locals, lots);
-        }
-        Stmt::Drop {
-            table,
-            owner,
-            condition,
-            rest,
-            ..
-        } => {
-            let vendor = env.whom(owner) as usize;
-            drop_rows(script, env, locals, lots, table as usize, vendor, condition);
-            run_block(script, env, rest, locals, lots);
-        }
-        Stmt::Alter {
-            table,
-            owner,
-            column,
-            value,
-            condition,
-            rest,
-            ..
-        } => {
-            let vendor = env.whom(owner) as usize;
-            alter_rows(
-                script,
-                env,
-                locals,
-                lots,
-                table as usize,
-                vendor,
-                column as usize,
+            Stmt::If {
+                condition,
+                first,
+                second,
+            } => {
+                let x = evaluate(env, &self.locals, condition);
+                let taken = if x == 0 { second } else { first };
+                self.begin();
+                self.run_block(env, taken);
+                self.run_block(env, node.rest);
+            }
+            Stmt::When {
+                left,
+                right,
+                first,
+                second,
+            } => {
+                let same = env.whom(left) == env.whom(right);
+                let taken = if same { first } else { second };
+                self.begin();
+                self.run_block(env, taken);
+                self.run_block(env, node.rest);
+            }
+            Stmt::Vendors { body } => {
+                self.begin();
+                self.run_vendors(env, body);
+                self.run_block(env, node.rest);
+            }
+            Stmt::Each { lot, body } => {
+                self.begin();
+                self.run_each(env, env.lot(lot), body);
+                self.run_block(env, node.rest);
+            }
+            Stmt::Add { lot, values, .. } => {
+                let row = row_of(env, &self.locals, values);
+                self.add_row(env.lot(lot), row);
+                self.run_block(env, node.rest);
+            }
+            Stmt::Drop { lot, condition, .. } => {
+                self.drop_rows(env, env.lot(lot), condition);
+                self.run_block(env, node.rest);
+            }
+            Stmt::Alter {
+                lot,
+                column,
                 value,
                 condition,
-            );
-            run_block(script, env, rest, locals, lots);
+                ..
+            } => {
+                let lot = env.lot(lot);
+                self.alter_rows(env, lot, column as usize, value, condition);
+                self.run_block(env, node.rest);
+            }
         }
     }
 }

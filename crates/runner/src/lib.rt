@@ -2,12 +2,10 @@
 #![tactic(auto)]
 
 pub mod blocks;
-pub mod counting;
 pub mod env;
 pub mod evaluate;
-pub mod flat;
 pub mod locals;
-pub mod names;
+pub mod machine;
 pub mod of_row;
 pub mod whole;
 

@@ -4,7 +4,7 @@ use Rattle.std.proofs.lemmas.List.{get_or_past}
 use Rattle.std.proofs.lemmas.Bool.{and_parts}
 use Rattle.rules.specs.Scripts as rules
 use Rattle.script.specs.declared.node.Expr.{Expr}
-use Rattle.script.specs.declared.node.Stmt.{Stmt}
+use Rattle.script.specs.declared.node.Node.{Node}
 use Rattle.script.specs.Nodes.{expr_of, code_of, expr_at, block_at}
 use Rattle.script.specs.Ordered.{all_below, parts, blocks_in, exprs_in, exprs_ordered, stmt_ordered, stmts_ordered}
 use Rattle.script.specs.Meaning.{grown_exprs, grown_codes}
@@ -29,11 +29,11 @@ expr_place ns at node o h is =
 pub no_expr : (ns : List Expr) (at : ℕ) → length ns ≤ at → expr_at (grown_exprs ns) at ≡ rules.Expr.literal 0
 no_expr ns at h = get_or_past (grown_exprs ns) at (rules.Expr.literal 0) (omega (arith, as_many_exprs ns))
 
-pub record StmtPlace (es : List rules.Expr) (ns : List Stmt) (block : ℕ) (node : Stmt) : Type 0 where
+pub record StmtPlace (es : List rules.Expr) (ns : List Node) (block : ℕ) (node : Node) : Type 0 where
   pub meaning : block_at (grown_codes es ns) block ≡ code_of es (grown_codes es ns) node
   pub back : all_below block (blocks_in node) ≡ true
 
-pub stmt_place : (es : List rules.Expr) (top : ℕ) (ns : List Stmt) (block : ℕ) (node : Stmt) → stmts_ordered top 1 ns ≡ true → 0 < block
+pub stmt_place : (es : List rules.Expr) (top : ℕ) (ns : List Node) (block : ℕ) (node : Node) → stmts_ordered top 1 ns ≡ true → 0 < block
     → block - 1 < length ns → node ≡ get_or ns (block - 1) node → StmtPlace es ns block node
 stmt_place es top ns block node o pos h is =
     let m = get_or ns (block - 1) node in
@@ -48,8 +48,8 @@ stmt_place es top ns block node o pos h is =
       back = ap (λ e. all_below block (blocks_in e)) is ∙ low;
     }
 
-pub no_stmt : (es : List rules.Expr) (ns : List Stmt) (block : ℕ) → 0 < block → length ns ≤ block - 1 → block_at (grown_codes es ns) block ≡ rules.Code.stop
+pub no_stmt : (es : List rules.Expr) (ns : List Node) (block : ℕ) → 0 < block → length ns ≤ block - 1 → block_at (grown_codes es ns) block ≡ rules.Code.stop
 no_stmt es ns block pos h = get_or_past (grown_codes es ns) block rules.Code.stop (omega (arith, as_many_codes es ns))
 
-pub empty_block : (es : List rules.Expr) (ns : List Stmt) → block_at (grown_codes es ns) 0 ≡ rules.Code.stop
+pub empty_block : (es : List rules.Expr) (ns : List Node) → block_at (grown_codes es ns) 0 ≡ rules.Code.stop
 empty_block es ns = sym (grow_front (code_of es) (rules.Code.stop ∷ []) ns 0 rules.Code.stop (omega arith))

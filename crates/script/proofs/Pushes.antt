@@ -6,7 +6,7 @@ use Rattle.inplace.specs.declared.array_vec.ArrayVec.{ArrayVec}
 use Rattle.inplace.specs.Held.{held}
 use Rattle.rules.specs.Scripts as rules
 use Rattle.script.specs.declared.node.Expr.{Expr}
-use Rattle.script.specs.declared.node.Stmt.{Stmt}
+use Rattle.script.specs.declared.node.Node.{Node}
 use Rattle.script.specs.Growing.{grow}
 use Rattle.script.specs.Nodes.{expr_of, code_of}
 use Rattle.script.specs.Ordered.{all_below, parts, exprs_ordered, stmt_ordered, stmts_ordered}
@@ -18,7 +18,7 @@ use Rattle.script.proofs.Order.{code_local, below_more, exprs_ordered_push, stmt
 pub as_many_exprs : (ns : List Expr) → length (grown_exprs ns) ≡ length ns
 as_many_exprs ns = grow_length expr_of [] ns ∙ omega arith
 
-pub as_many_codes : (es : List rules.Expr) (ms : List Stmt) → length (grown_codes es ms) ≡ 1 + length ms
+pub as_many_codes : (es : List rules.Expr) (ms : List Node) → length (grown_codes es ms) ≡ 1 + length ms
 as_many_codes es ms = grow_length (code_of es) (rules.Code.stop ∷ []) ms ∙ omega arith
 
 -- the pushed list, where there was room
@@ -27,7 +27,7 @@ grew : {A : Type 0} {n : ℕ} (was is : ArrayVec A n) (x : A) (r : Bool) → len
 grew {A} {n} was is x r room told after = after ∙ ap (λ b. cond b (held was ++ x ∷ []) (held was)) (told ∙ lt-ltb (length (held was)) n room)
 
 -- blocks stay what they are, when expressions that they do not name are pushed
-codes_stay : (top n : ℕ) (es fs : List rules.Expr) (acc : List rules.Code) (ms : List Stmt) → length acc ≡ n → Same top es fs
+codes_stay : (top n : ℕ) (es fs : List rules.Expr) (acc : List rules.Code) (ms : List Node) → length acc ≡ n → Same top es fs
     → stmts_ordered top n ms ≡ true → grow (code_of es) acc ms ≡ grow (code_of fs) acc ms
 codes_stay top n es fs acc [] l s o = refl
 codes_stay top n es fs acc (m ∷ ms) l s o =
@@ -36,14 +36,14 @@ codes_stay top n es fs acc (m ∷ ms) l s o =
     codes_stay top (suc n) es fs (acc ++ code_of es acc m ∷ []) ms (length_push acc (code_of es acc m) ∙ omega arith) s p.1
     ∙ ap (λ x. grow (code_of fs) (acc ++ x ∷ []) ms) same
 
-pub record ExprPushed (was is : List Expr) (ms : List Stmt) (node : Expr) : Type 0 where
+pub record ExprPushed (was is : List Expr) (ms : List Node) (node : Expr) : Type 0 where
   pub room : expr_room (grown_exprs was) node ≡ true
   pub exprs : grown_exprs is ≡ grown_exprs was ++ expr_of (grown_exprs was) node ∷ []
   pub codes : grown_codes (grown_exprs is) ms ≡ grown_codes (grown_exprs was) ms
   pub built : exprs_ordered 0 is ≡ true
   pub joined : stmts_ordered (length is) 1 ms ≡ true
 
-pub expr_pushed : (was is : ArrayVec Expr 256) (ms : List Stmt) (node : Expr) (r : Bool)
+pub expr_pushed : (was is : ArrayVec Expr 256) (ms : List Node) (node : Expr) (r : Bool)
     → exprs_ordered 0 (held was) ≡ true → stmts_ordered (length (held was)) 1 ms ≡ true
     → length (held was) < 256 → all_below (length (held was)) (parts node) ≡ true
     → r ≡ ltb (length (held was)) 256 → held is ≡ cond r (held was ++ node ∷ []) (held was)
@@ -66,12 +66,12 @@ expr_pushed was is ms node r built joined room fits told after =
       joined = stmts_ordered_more (length ns) (length (held is)) 1 ms (omega arith) joined;
     }
 
-pub record StmtPushed (es : List rules.Expr) (top : ℕ) (was is : List Stmt) (node : Stmt) : Type 0 where
+pub record StmtPushed (es : List rules.Expr) (top : ℕ) (was is : List Node) (node : Node) : Type 0 where
   pub room : stmt_room es (grown_codes es was) node ≡ true
   pub codes : grown_codes es is ≡ grown_codes es was ++ code_of es (grown_codes es was) node ∷ []
   pub joined : stmts_ordered top 1 is ≡ true
 
-pub stmt_pushed : (es : List rules.Expr) (top : ℕ) (was is : ArrayVec Stmt 64) (node : Stmt) (r : Bool)
+pub stmt_pushed : (es : List rules.Expr) (top : ℕ) (was is : ArrayVec Node 64) (node : Node) (r : Bool)
     → length es ≡ top → stmts_ordered top 1 (held was) ≡ true
     → length (held was) < 64 → stmt_ordered top (length (held was) + 1) node ≡ true
     → r ≡ ltb (length (held was)) 64 → held is ≡ cond r (held was ++ node ∷ []) (held was)
@@ -81,11 +81,12 @@ stmt_pushed es top was is node r long joined room fits told after =
     let cs = grown_codes es ns in
     let is_now = grew was is node r room told after in
     let many : length cs ≡ 1 + length ns = as_many_codes es ns in
+    let at : stmt_ordered top (1 + length ns) node ≡ true = ap (λ k. stmt_ordered top k node) (add_comm 1 (length ns)) ∙ fits in
     record {
       room = and_from (ltb (length cs) 65) (stmt_ordered (length es) (length cs) node) (lt-ltb (length cs) 65 (omega arith))
-          (rw (long, many) (rw (add_comm 1 (length ns)) fits));
+          (ap₂ (λ k m. stmt_ordered k m node) long many ∙ at);
       codes = ap (grown_codes es) is_now ∙ grow_push (code_of es) (rules.Code.stop ∷ []) ns node;
-      joined = ap (stmts_ordered top 1) is_now ∙ stmts_ordered_push top 1 ns node joined (rw (add_comm 1 (length ns)) fits);
+      joined = ap (stmts_ordered top 1) is_now ∙ stmts_ordered_push top 1 ns node joined at;
     }
 
 -- where nothing is pushed
@@ -97,12 +98,12 @@ pub expr_unfit : (ns : List Expr) (node : Expr) → all_below (length ns) (parts
 expr_unfit ns node h =
     and_right (ltb (length (grown_exprs ns)) 256) (all_below (length (grown_exprs ns)) (parts node)) (ap (λ n. all_below n (parts node)) (as_many_exprs ns) ∙ h)
 
-pub stmts_full : (es : List rules.Expr) (ns : List Stmt) (node : Stmt) → 64 ≤ length ns → stmt_room es (grown_codes es ns) node ≡ false
+pub stmts_full : (es : List rules.Expr) (ns : List Node) (node : Node) → 64 ≤ length ns → stmt_room es (grown_codes es ns) node ≡ false
 stmts_full es ns node h =
     let cs = grown_codes es ns in
     and_left (ltb (length cs) 65) (stmt_ordered (length es) (length cs) node) (le-ltb (length cs) 65 (omega (arith, as_many_codes es ns)))
 
-pub stmt_unfit : (es : List rules.Expr) (top : ℕ) (ns : List Stmt) (node : Stmt) → length es ≡ top → stmt_ordered top (length ns + 1) node ≡ false
+pub stmt_unfit : (es : List rules.Expr) (top : ℕ) (ns : List Node) (node : Node) → length es ≡ top → stmt_ordered top (length ns + 1) node ≡ false
     → stmt_room es (grown_codes es ns) node ≡ false
 stmt_unfit es top ns node l h =
     let cs = grown_codes es ns in

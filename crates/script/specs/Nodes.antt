@@ -11,6 +11,7 @@ use Rattle.script.specs.declared.node.Op.TheVariants.{Plus, Minus, Min, Max, Equ
 use Rattle.script.specs.declared.node.Expr.{Expr}
 use Rattle.script.specs.declared.node.Expr.TheVariants.{Literal, Mine, OfIndex, Variable, Cell, Apply}
 use Rattle.script.specs.declared.node.Stmt.{Stmt}
+use Rattle.script.specs.declared.node.Node.{Node}
 use Rattle.script.specs.declared.node.Stmt.TheVariants.{Var, Set, If, When, Vendors, Each, Add, Drop, Alter}
 
 abbrev pub index_of : Index → rules.Index
@@ -45,15 +46,18 @@ expr_of es (Variable level) = rules.Expr.variable level
 expr_of es (Cell level column) = rules.Expr.cell level column
 expr_of es (Apply op left right) = rules.Expr.apply (op_of op) (expr_at es left) (expr_at es right)
 
-abbrev pub code_of : List rules.Expr → List rules.Code → Stmt → rules.Code
-code_of es cs (Var mark rest) = rules.Code.var (mark_of mark) (block_at cs rest)
-code_of es cs (Set place level value rest) = rules.Code.set place level (expr_at es value) (block_at cs rest)
-code_of es cs (If condition first second rest) = rules.Code.if (expr_at es condition) (block_at cs first) (block_at cs second) (block_at cs rest)
-code_of es cs (When left right first second rest) =
-    rules.Code.when (index_of left) (index_of right) (block_at cs first) (block_at cs second) (block_at cs rest)
-code_of es cs (Vendors body rest) = rules.Code.vendors (block_at cs body) (block_at cs rest)
-code_of es cs (Each table owner body rest) = rules.Code.each table (index_of owner) (block_at cs body) (block_at cs rest)
-code_of es cs (Add place table owner values rest) = rules.Code.add place table (index_of owner) (map (expr_at es) (held values)) (block_at cs rest)
-code_of es cs (Drop place table owner condition rest) = rules.Code.drop place table (index_of owner) (expr_at es condition) (block_at cs rest)
-code_of es cs (Alter place table owner column value condition rest) =
-    rules.Code.alter place table (index_of owner) column (expr_at es value) (expr_at es condition) (block_at cs rest)
+-- What a statement stands for, before the rest of its block.
+abbrev pub stmt_of : List rules.Expr → List rules.Code → Stmt → rules.Code → rules.Code
+stmt_of es cs (Var mark) rest = rules.Code.var (mark_of mark) rest
+stmt_of es cs (Set place level value) rest = rules.Code.set place level (expr_at es value) rest
+stmt_of es cs (If condition first second) rest = rules.Code.if (expr_at es condition) (block_at cs first) (block_at cs second) rest
+stmt_of es cs (When left right first second) rest = rules.Code.when (index_of left) (index_of right) (block_at cs first) (block_at cs second) rest
+stmt_of es cs (Vendors body) rest = rules.Code.vendors (block_at cs body) rest
+stmt_of es cs (Each lot body) rest = rules.Code.each lot.table (index_of lot.owner) (block_at cs body) rest
+stmt_of es cs (Add place lot values) rest = rules.Code.add place lot.table (index_of lot.owner) (map (expr_at es) (held values)) rest
+stmt_of es cs (Drop place lot condition) rest = rules.Code.drop place lot.table (index_of lot.owner) (expr_at es condition) rest
+stmt_of es cs (Alter place lot column value condition) rest =
+    rules.Code.alter place lot.table (index_of lot.owner) column (expr_at es value) (expr_at es condition) rest
+
+abbrev pub code_of : List rules.Expr → List rules.Code → Node → rules.Code
+code_of es cs node = stmt_of es cs node.stmt (block_at cs node.rest)

@@ -2,17 +2,18 @@
 ghost use Rattle.std.specs.Prelude.{◌≡◌, [], ◌∷◌, length};
 ghost use Rattle.rules.specs.Scripts.Code.{stop};
 ghost use Rattle.script.specs.Nodes.{expr_of, code_of};
-ghost use Rattle.script.specs.Ordered.{all_below, parts, stmt_ordered};
+ghost use Rattle.script.specs.Ordered.{all_below, parts, names_below, stmt_ordered};
 ghost use Rattle.script.specs.Pushing.{expr_room, stmt_room, pushed, place_if};
 ghost use Rattle.script.specs.Meaning.{exprs_of, codes_of, script_of};
 
-use crate::node::{Expr, Stmt};
+use crate::node::{Expr, Node, Stmt};
 use crate::script::Script;
 use inplace::ArrayVec;
 
 const MOST_EXPRS: usize = 256;
 
-const MOST_STMTS: usize = 64;
+// The most statements of a script.
+pub const MOST_STATEMENTS: usize = 64;
 
 // Whether all numbers are below a bound.
 fn all_are_below(bound: usize, numbers: &[usize]) -> bool
@@ -36,62 +37,36 @@ fn expr_fits(at: usize, node: &Expr) -> bool
     }
 }
 
-// Whether a statement names only expressions below a place, and only blocks below its own.
-fn stmt_fits(top: usize, block: usize, node: &Stmt) -> bool
-    ensures { result ≡ stmt_ordered top block node.now }
+// Whether a statement names only expressions below a place, and only blocks below another.
+fn stmt_fits(top: usize, block: usize, stmt: &Stmt) -> bool
+    ensures { result ≡ names_below top block stmt.now }
 {
-    match node {
-        Stmt::Var { mark: _, rest } => *rest < block,
-        Stmt::Set {
-            place: _,
-            level: _,
-            value,
-            rest,
-        } => *value < top && *rest < block,
+    match stmt {
+        Stmt::Var { .. } => true,
+        Stmt::Set { value, .. } => *value < top,
         Stmt::If {
             condition,
             first,
             second,
-            rest,
-        } => *condition < top && *first < block && *second < block && *rest < block,
-        Stmt::When {
-            left: _,
-            right: _,
-            first,
-            second,
-            rest,
-        } => *first < block && *second < block && *rest < block,
-        Stmt::Vendors { body, rest } => *body < block && *rest < block,
-        Stmt::Each {
-            table: _,
-            owner: _,
-            body,
-            rest,
-        } => *body < block && *rest < block,
-        Stmt::Add {
-            place: _,
-            table: _,
-            owner: _,
-            values,
-            rest,
-        } => all_are_below(top, values.as_slice()) && *rest < block,
-        Stmt::Drop {
-            place: _,
-            table: _,
-            owner: _,
-            condition,
-            rest,
-        } => *condition < top && *rest < block,
+        } => *condition < top && *first < block && *second < block,
+        Stmt::When { first, second, .. } => *first < block && *second < block,
+        Stmt::Vendors { body } => *body < block,
+        Stmt::Each { body, .. } => *body < block,
+        Stmt::Add { values, .. } => all_are_below(top, values.as_slice()),
+        Stmt::Drop { condition, .. } => *condition < top,
         Stmt::Alter {
-            place: _,
-            table: _,
-            owner: _,
-            column: _,
             value,
             condition,
-            rest,
-        } => *value < top && *condition < top && *rest < block,
+            ..
+        } => *value < top && *condition < top,
     }
+}
+
+// Whether a node names only expressions below a place, and only blocks below its own.
+fn node_fits(top: usize, block: usize, node: &Node) -> bool
+    ensures { result ≡ stmt_ordered top block node.now }
+{
+    stmt_fits(top, block, &node.stmt) && node.rest < block
 }
 
 impl Script {
@@ -101,7 +76,10 @@ impl Script {
         ensures codes { codes_of result ≡ stop ∷ [] }
         ensures script { script_of result ≡ stop }
     {
-        let unused = Stmt::Vendors { body: 0, rest: 0 };
+        let unused = Node {
+            stmt: Stmt::Vendors { body: 0 },
+            rest: 0,
+        };
         Script {
             exprs: ArrayVec::new(Expr::Mine),
             stmts: ArrayVec::new(unused),
@@ -129,17 +107,17 @@ impl Script {
 
     // One statement more, with the rest of its block: the number of the block that begins with it, or nothing where there
     // is no room or it names what does not stand before it.
-    pub fn push_stmt(&mut self, node: Stmt) -> Option<usize>
+    pub fn push_stmt(&mut self, node: Node) -> Option<usize>
         ensures value { result ≡ place_if (stmt_room (exprs_of self.old) (codes_of self.old) node) (length (codes_of self.old)) }
         ensures codes { codes_of self.new ≡ pushed (stmt_room (exprs_of self.old) (codes_of self.old) node) (codes_of self.old) (code_of (exprs_of self.old) (codes_of self.old) node) }
         ensures exprs { exprs_of self.new ≡ exprs_of self.old }
         ensures first { self.new.first ≡ self.old.first }
     {
         let at = self.stmts.len();
-        if at >= MOST_STMTS {
+        if at >= MOST_STATEMENTS {
             return None;
         }
-        if !stmt_fits(self.exprs.len(), at + 1, &node) {
+        if !node_fits(self.exprs.len(), at + 1, &node) {
             return None;
         }
         let _ = self.stmts.push(node);

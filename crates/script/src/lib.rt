@@ -6,6 +6,9 @@ pub mod build;
 pub mod node;
 pub mod read;
 pub mod script;
+pub mod valuation;
 
-pub use node::{Expr, Index, Mark, Op, Stmt};
+pub use build::MOST_STATEMENTS;
+pub use node::{Expr, Index, Lot, MOST_NAMES, Mark, Node, Op, Stmt};
 pub use script::Script;
+pub use valuation::Valuation;

@@ -1,6 +1,9 @@
 // The nodes of a script. A name is its level: how many names were in scope where it was made.
 use inplace::ArrayVec;
 
+// The most names in scope.
+pub const MOST_NAMES: usize = 16;
+
 // Which vendor is meant: one by its number, the vendor that the script runs for, or the one that an index stands for.
 #[derive(Clone, Copy)]
 pub enum Index {
@@ -38,64 +41,66 @@ pub enum Expr {
     Apply(Op, usize, usize),
 }
 
-// A statement with the rest of its block. Block 0 is the empty one, and block n + 1 begins with statement n. A statement
-// that can break a flow rule has its place, the byte of the text where it starts.
+// A lot: its table, and whose it is.
+#[derive(Clone, Copy)]
+pub struct Lot {
+    pub table: u32,
+    pub owner: Index,
+}
+
+// A statement. Block 0 is the empty one, and block n + 1 begins with the node at n: a number and no `Option`, since the numbers of
+// blocks are the measure of every recursion over a script. A statement that can break a flow rule has its
+// place, the byte of the text where it starts.
 #[derive(Clone, Copy)]
 pub enum Stmt {
     Var {
         mark: Mark,
-        rest: usize,
     },
     Set {
         place: usize,
         level: usize,
         value: usize,
-        rest: usize,
     },
     If {
         condition: usize,
         first: usize,
         second: usize,
-        rest: usize,
     },
     When {
         left: Index,
         right: Index,
         first: usize,
         second: usize,
-        rest: usize,
     },
     Vendors {
         body: usize,
-        rest: usize,
     },
     Each {
-        table: u32,
-        owner: Index,
+        lot: Lot,
         body: usize,
-        rest: usize,
     },
     Add {
         place: usize,
-        table: u32,
-        owner: Index,
+        lot: Lot,
         values: ArrayVec<usize, 4>,
-        rest: usize,
     },
     Drop {
         place: usize,
-        table: u32,
-        owner: Index,
+        lot: Lot,
         condition: usize,
-        rest: usize,
     },
     Alter {
         place: usize,
-        table: u32,
-        owner: Index,
+        lot: Lot,
         column: u32,
         value: usize,
         condition: usize,
-        rest: usize,
     },
+}
+
+// A statement with the rest of its block.
+#[derive(Clone, Copy)]
+pub struct Node {
+    pub stmt: Stmt,
+    pub rest: usize,
 }

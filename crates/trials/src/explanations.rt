@@ -2,34 +2,18 @@
 #[cfg(test)]
 mod tests {
     use crate::small::{push, push_expr, three_vendors};
-    use explain::explain;
     use inplace::ArrayVec;
+    use judge::{Broken, explain};
     use lattice::Compartments;
-    use script::{Expr, Index, Mark, Op, Script, Stmt};
+    use script::{Expr, Index, Lot, Mark, Op, Script, Stmt};
     use std::process::Abort;
     use std::test::Fail;
 
     const TOP: u64 = 256;
 
-    #[derive(Clone, Copy)]
-    struct Said<'a> {
-        place: usize,
-        flowing: u64,
-        limit: u64,
-        me: u32,
-        indexes: &'a [u32],
-    }
-
-    fn expect(rt: &impl Abort, script: &Script, said: Said<'_>) -> Result<(), Fail> {
+    fn expect(rt: &impl Abort, script: &Script, said: Broken) -> Result<(), Fail> {
         let plan = three_vendors()?;
-        let Some(broken) = explain(&Compartments, &plan, script) else {
-            return Err(Fail::new("nothing is refused"));
-        };
-        assert_eq!(rt; broken.place, said.place);
-        assert_eq!(rt; broken.flowing, said.flowing);
-        assert_eq!(rt; broken.limit, said.limit);
-        assert_eq!(rt; broken.me, said.me);
-        assert!(rt; broken.indexes.as_slice() == said.indexes);
+        assert!(rt; explain(&Compartments, &plan, script) == Some(said));
         Ok(())
     }
 
@@ -44,30 +28,30 @@ mod tests {
             place: 46,
             level: 0,
             value,
-            rest: 0,
         };
-        let inner = push(&mut script, set)?;
+        let inner = push(&mut script, set, 0)?;
         let each = Stmt::Each {
-            table: 0,
-            owner: Index::Level(1),
+            lot: Lot {
+                table: 0,
+                owner: Index::Level(1),
+            },
             body: inner,
-            rest: 0,
         };
-        let body = push(&mut script, each)?;
-        let rest = push(&mut script, Stmt::Vendors { body, rest: 0 })?;
+        let body = push(&mut script, each, 0)?;
+        let rest = push(&mut script, Stmt::Vendors { body }, 0)?;
         let mark = Mark::Tag(1, Index::Me);
-        let first = push(&mut script, Stmt::Var { mark, rest })?;
+        let first = push(&mut script, Stmt::Var { mark }, rest)?;
         script.begin_with(first);
         // the first turn in which v is not me
         expect(
             &rt,
             &script,
-            Said {
+            Broken {
                 place: 46,
                 flowing: TOP,
                 limit: 64,
                 me: 0,
-                indexes: &[1],
+                indexes: ArrayVec::from_slice(0, &[1]),
             },
         )
     }
@@ -79,29 +63,31 @@ mod tests {
         let one = push_expr(&mut script, Expr::Literal(1))?;
         let add = Stmt::Add {
             place: 18,
-            table: 0,
-            owner: Index::Number(0),
+            lot: Lot {
+                table: 0,
+                owner: Index::Number(0),
+            },
             values: ArrayVec::from_slice(0, &[one, one]),
-            rest: 0,
         };
-        let body = push(&mut script, add)?;
+        let body = push(&mut script, add, 0)?;
         let each = Stmt::Each {
-            table: 0,
-            owner: Index::Number(1),
+            lot: Lot {
+                table: 0,
+                owner: Index::Number(1),
+            },
             body,
-            rest: 0,
         };
-        let first = push(&mut script, each)?;
+        let first = push(&mut script, each, 0)?;
         script.begin_with(first);
         expect(
             &rt,
             &script,
-            Said {
+            Broken {
                 place: 18,
                 flowing: 65,
                 limit: 64,
                 me: 0,
-                indexes: &[],
+                indexes: ArrayVec::new(0),
             },
         )
     }
@@ -113,25 +99,26 @@ mod tests {
         let n = push_expr(&mut script, Expr::Variable(0))?;
         let add = Stmt::Add {
             place: 15,
-            table: 0,
-            owner: Index::Number(0),
+            lot: Lot {
+                table: 0,
+                owner: Index::Number(0),
+            },
             values: ArrayVec::from_slice(0, &[n, n]),
-            rest: 0,
         };
-        let rest = push(&mut script, add)?;
+        let rest = push(&mut script, add, 0)?;
         let mark = Mark::Tag(2, Index::Number(1));
-        let first = push(&mut script, Stmt::Var { mark, rest })?;
+        let first = push(&mut script, Stmt::Var { mark }, rest)?;
         script.begin_with(first);
         // the second column's label is the top
         expect(
             &rt,
             &script,
-            Said {
+            Broken {
                 place: 15,
                 flowing: 129,
                 limit: 64,
                 me: 0,
-                indexes: &[],
+                indexes: ArrayVec::new(0),
             },
         )
     }
@@ -145,22 +132,23 @@ mod tests {
         let condition = push_expr(&mut script, Expr::Apply(Op::Equal, cell, two))?;
         let drop = Stmt::Drop {
             place: 0,
-            table: 0,
-            owner: Index::Me,
+            lot: Lot {
+                table: 0,
+                owner: Index::Me,
+            },
             condition,
-            rest: 0,
         };
-        let first = push(&mut script, drop)?;
+        let first = push(&mut script, drop, 0)?;
         script.begin_with(first);
         expect(
             &rt,
             &script,
-            Said {
+            Broken {
                 place: 0,
                 flowing: TOP,
                 limit: 64,
                 me: 0,
-                indexes: &[],
+                indexes: ArrayVec::new(0),
             },
         )
     }

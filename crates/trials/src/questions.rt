@@ -10,7 +10,7 @@ mod tests {
     use judge::judge;
     use lattice::{Grades, Lattice};
     use layout::Plan;
-    use script::{Expr, Index, Mark, Script, Stmt};
+    use script::{Expr, Index, Lot, Mark, Script, Stmt};
     use std::cell::Cell;
     use std::process::Abort;
     use std::test::Fail;
@@ -165,43 +165,45 @@ mod tests {
     ];
 
     // A statement with an expression for each of its values: variable 0 is written, or the lot of `me` in table 0.
-    fn flat_stmt(kind: Flat, value: usize, rest: usize) -> Stmt {
+    fn flat_stmt(kind: Flat, value: usize) -> Stmt {
         match kind {
             Flat::Set => Stmt::Set {
                 place: 0,
                 level: 0,
                 value,
-                rest,
             },
             Flat::Add => Stmt::Add {
                 place: 0,
-                table: 0,
-                owner: Index::Me,
+                lot: Lot {
+                    table: 0,
+                    owner: Index::Me,
+                },
                 values: ArrayVec::from_slice(0, &[value, value]),
-                rest,
             },
             Flat::Drop => Stmt::Drop {
                 place: 0,
-                table: 0,
-                owner: Index::Me,
+                lot: Lot {
+                    table: 0,
+                    owner: Index::Me,
+                },
                 condition: value,
-                rest,
             },
             Flat::Alter => Stmt::Alter {
                 place: 0,
-                table: 0,
-                owner: Index::Me,
+                lot: Lot {
+                    table: 0,
+                    owner: Index::Me,
+                },
                 column: 1,
                 value,
                 condition: value,
-                rest,
             },
         }
     }
 
     // A block for every vendor, whose index has level 1.
     fn for_every_vendor(body: usize) -> Stmt {
-        Stmt::Vendors { body, rest: 0 }
+        Stmt::Vendors { body }
     }
 
     fn when_equal(first: usize, second: usize) -> Stmt {
@@ -210,7 +212,6 @@ mod tests {
             right: Index::Me,
             first,
             second,
-            rest: 0,
         }
     }
 
@@ -223,19 +224,21 @@ mod tests {
     ) -> Result<usize, Fail> {
         match around {
             Around::Nothing => Ok(body),
-            Around::Vendors => push(script, for_every_vendor(body)),
+            Around::Vendors => push(script, for_every_vendor(body), 0),
             Around::VendorsTwice => {
-                let inner = push(script, for_every_vendor(body))?;
-                push(script, for_every_vendor(inner))
+                let inner = push(script, for_every_vendor(body), 0)?;
+                push(script, for_every_vendor(inner), 0)
             }
             Around::Each => push(
                 script,
                 Stmt::Each {
-                    table: 0,
-                    owner: Index::Me,
+                    lot: Lot {
+                        table: 0,
+                        owner: Index::Me,
+                    },
                     body,
-                    rest: 0,
                 },
+                0,
             ),
             Around::If => push(
                 script,
@@ -243,16 +246,16 @@ mod tests {
                     condition,
                     first: body,
                     second: body,
-                    rest: 0,
                 },
+                0,
             ),
             Around::WhenEqual => {
-                let inner = push(script, when_equal(body, 0))?;
-                push(script, for_every_vendor(inner))
+                let inner = push(script, when_equal(body, 0), 0)?;
+                push(script, for_every_vendor(inner), 0)
             }
             Around::WhenDifferent => {
-                let inner = push(script, when_equal(0, body))?;
-                push(script, for_every_vendor(inner))
+                let inner = push(script, when_equal(0, body), 0)?;
+                push(script, for_every_vendor(inner), 0)
             }
         }
     }
@@ -263,10 +266,10 @@ mod tests {
         let value = push_expr(&mut script, value)?;
         let mut block = 0;
         for kind in flats {
-            block = push(&mut script, flat_stmt(*kind, value, block))?;
+            block = push(&mut script, flat_stmt(*kind, value), block)?;
         }
         let body = push_around(&mut script, shape, value, block)?;
-        let first = push(&mut script, Stmt::Var { mark, rest: body })?;
+        let first = push(&mut script, Stmt::Var { mark }, body)?;
         script.begin_with(first);
         Ok(script)
     }

@@ -1,6 +1,6 @@
 // A small plan, and scripts that are built by hand.
 use layout::{Pair, Plan};
-use script::{Expr, Script, Stmt};
+use script::{Expr, Node, Script, Stmt};
 use std::test::Fail;
 
 // Three vendors, and a table of row family 1 and column families 1 and 2.
@@ -29,8 +29,13 @@ pub(crate) fn three_vendors() -> Result<Plan, Fail> {
     Ok(plan)
 }
 
-pub(crate) fn push(script: &mut Script, stmt: Stmt) -> Result<usize, Fail> {
-    Ok(script.push_stmt(stmt).ok_or("no room for the statement")?)
+// A statement in front of the rest of its block.
+pub(crate) fn push(script: &mut Script, stmt: Stmt, rest: usize) -> Result<usize, Fail> {
+    Ok(
+        script
+            .push_stmt(Node { stmt, rest })
+            .ok_or("no room for the statement")?,
+    )
 }
 
 pub(crate) fn push_expr(script: &mut Script, expr: Expr) -> Result<usize, Fail> {

@@ -1,41 +1,53 @@
--- One byte more of a cut.
-use Rattle.std.proofs.Common.{◌≡◌, ℕ, ◌+◌, ◌<◌, ◌≤◌, cond, List, [], ◌∷◌, ◌++◌, length, get_or, take, drop, sym, ap, ◌∙◌, append_assoc, append-nil, take_all}
-use Rattle.std.proofs.lemmas.List.{at_drop_more, at_drop_all, take_more}
-use Rattle.std.proofs.lemmas.Bool.{eq-eqb, ne_eqb}
-use Rattle.words.specs.Cuts.{before, behind}
+-- Where a text is cut.
+use Rattle.std.proofs.Common.{◌≡◌, ℕ, suc, ◌+◌, Bool, true, false, cond, eqb, ltb, List, [], ◌∷◌, length, take, drop, Some, None, Option, refl, ap, ◌∙◌, arith}
+use Prim.Native.Nat.compare
+use Rattle.std.specs.Option.{option_map}
+use Rattle.std.specs.List.{position_or_len, list_any}
+use Rattle.std.proofs.lemmas.Bool.{lt-ltb}
+use Rattle.std.proofs.lemmas.Grind.{common_steps}
+use Rattle.words.specs.Cuts.{before, behind, parts}
 
--- How far a cut has come: no mark below i.
-pub record Passed (mark : ℕ) (xs : List ℕ) (i : ℕ) : Type 0 where
-  pub front : before mark xs ≡ take i xs ++ before mark (drop i xs)
-  pub back : behind mark xs ≡ behind mark (drop i xs)
+-- The parts at a place that may be there.
+abbrev pub parts_at : List ℕ → Option ℕ → Option (List ℕ × List ℕ)
+parts_at bs at = option_map (λ n. (take n bs, drop (n + 1) bs)) at
 
-module _ (mark : ℕ) (xs : List ℕ) (i : ℕ) (h : i < length xs) (p : Passed mark xs i) where
-  pub passes : (get_or xs i 0 ≡ mark → ⊥) → Passed mark xs (i + 1)
-  passes ne =
-      let no_mark = ne_eqb (get_or xs i 0) mark ne in
-      let f : before mark (drop i xs) ≡ get_or xs i 0 ∷ before mark (drop (i + 1) xs) =
-      at_drop_more (before mark) xs i 0 h ∙ ap (λ b. cond b [] (get_or xs i 0 ∷ before mark (drop (i + 1) xs))) no_mark in
-      let b : behind mark (drop i xs) ≡ behind mark (drop (i + 1) xs) =
-      at_drop_more (behind mark) xs i 0 h ∙ ap (λ b. cond b (drop (i + 1) xs) (behind mark (drop (i + 1) xs))) no_mark in
-      record {
-        front = p.front ∙ ap (λ ys. take i xs ++ ys) f ∙ sym (append_assoc (take i xs) (get_or xs i 0 ∷ []) (before mark (drop (i + 1) xs)))
-            ∙ ap (λ ys. ys ++ before mark (drop (i + 1) xs)) (sym (take_more xs i 0 h));
-        back = p.back ∙ b;
-      }
+-- How a text is cut at its first such byte.
+record First (mark : ℕ) (bs : List ℕ) : Type 0 where
+  pub front : take (position_or_len (λ b. eqb b mark) bs) bs ≡ before mark bs
+  pub back : drop (position_or_len (λ b. eqb b mark) bs + 1) bs ≡ behind mark bs
+  pub found : ltb (position_or_len (λ b. eqb b mark) bs) (length bs) ≡ list_any (λ b. eqb b mark) bs
 
-  pub stops_before : get_or xs i 0 ≡ mark → take i xs ≡ before mark xs
-  stops_before e =
-      let f : before mark (drop i xs) ≡ [] =
-      at_drop_more (before mark) xs i 0 h ∙ ap (λ b. cond b [] (get_or xs i 0 ∷ before mark (drop (i + 1) xs))) (eq-eqb (get_or xs i 0) mark e) in
-      sym (p.front ∙ ap (λ ys. take i xs ++ ys) f ∙ append-nil (take i xs))
+first : (mark : ℕ) (bs : List ℕ) → First mark bs
+first mark [] = record { front = refl; back = refl; found = refl }
+first mark (b ∷ bs) = go (eqb b mark) refl (first mark bs)
+  where
+    go : (t : Bool) → eqb b mark ≡ t → First mark bs → First mark (b ∷ bs)
+    go true e rest = record { front = rw e; back = rw e; found = rw e (lt-ltb 0 (length (b ∷ bs)) (omega arith)) }
+    go false e rest =
+        let p : ℕ = position_or_len (λ x. eqb x mark) bs in
+        let one : position_or_len (λ x. eqb x mark) (b ∷ bs) ≡ suc p = rw e (omega arith) in
+        let two : position_or_len (λ x. eqb x mark) (b ∷ bs) + 1 ≡ suc (p + 1) = omega arith in
+        record {
+          front = ap (λ n. take n (b ∷ bs)) one ∙ rw e (ap (λ more. b ∷ more) rest.front);
+          back = ap (λ n. drop n (b ∷ bs)) two ∙ rw e rest.back;
+          found = ap (λ n. ltb n (length (b ∷ bs))) one ∙ rw (e, compare.suc-suc) rest.found;
+        }
 
-  pub stops_behind : get_or xs i 0 ≡ mark → drop (i + 1) xs ≡ behind mark xs
-  stops_behind e =
-      sym (p.back ∙ at_drop_more (behind mark) xs i 0 h ∙ ap (λ b. cond b (drop (i + 1) xs) (behind mark (drop (i + 1) xs))) (eq-eqb (get_or xs i 0) mark e))
+pub parts_found : (mark : ℕ) (bs : List ℕ) (at : Option ℕ)
+    → at ≡ cond (ltb (position_or_len (λ b. eqb b mark) bs) (length bs)) (Some (position_or_len (λ b. eqb b mark) bs)) None
+    → parts_at bs at ≡ parts mark bs
+parts_found mark bs at e = ap (parts_at bs) e ∙ go (list_any (λ b. eqb b mark) bs) refl (first mark bs)
+  where
+    go : (t : Bool) → list_any (λ b. eqb b mark) bs ≡ t → First mark bs
+        → parts_at bs (cond (ltb (position_or_len (λ b. eqb b mark) bs) (length bs)) (Some (position_or_len (λ b. eqb b mark) bs)) None) ≡ parts mark bs
+    go true e f = rw (f.found, e) (λ i. Some (f.front i, f.back i))
+    go false e f = rw (f.found, e)
 
-pub all_before : (mark : ℕ) (xs : List ℕ) (i : ℕ) → length xs ≤ i → Passed mark xs i → xs ≡ before mark xs
-all_before mark xs i h p =
-    sym (p.front ∙ ap (λ ys. take i xs ++ ys) (at_drop_all (before mark) xs i h) ∙ append-nil (take i xs) ∙ take_all i xs h)
+-- Where there is no such byte the whole text stands before it.
+pub record Uncut (mark : ℕ) (bs : List ℕ) : Type 0 where
+  pub front : bs ≡ before mark bs
+  pub back : [] ≡ behind mark bs
 
-pub none_behind : (mark : ℕ) (xs : List ℕ) (i : ℕ) → length xs ≤ i → Passed mark xs i → [] ≡ behind mark xs
-none_behind mark xs i h p = sym (p.back ∙ at_drop_all (behind mark) xs i h)
+pub uncut : (mark : ℕ) (bs : List ℕ) → None ≡ parts mark bs → Uncut mark bs
+uncut mark [] h = record { front = refl; back = refl }
+uncut mark (b ∷ bs) h = record { front = grind (arith, common_steps, uncut mark bs, h); back = grind (arith, common_steps, uncut mark bs, h) }

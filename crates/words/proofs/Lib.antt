@@ -1,3 +1,2 @@
-mod Cutting
-mod Digits
-mod FirstWord
+pub mod Cutting
+pub mod FirstWord

@@ -1,4 +1,5 @@
 -- A text cut at a byte.
+use Rattle.std.specs.List.{list_any}
 use Rattle.std.specs.Prelude.{ℕ, Bool, false, cond, not, ◌||◌, List, [], ◌∷◌, is_some, Some, None, Option, ◌==◌}
 
 -- The part before the first such byte: all of it where there is none.
@@ -10,6 +11,10 @@ before mark (b ∷ bs) = cond (b == mark) [] (b ∷ before mark bs)
 abbrev pub behind : ℕ → List ℕ → List ℕ
 behind mark [] = []
 behind mark (b ∷ bs) = cond (b == mark) bs (behind mark bs)
+
+-- Both parts, where there is such a byte.
+abbrev pub parts : ℕ → List ℕ → Option (List ℕ × List ℕ)
+parts mark bs = cond (list_any (λ b. b == mark) bs) (Some (before mark bs, behind mark bs)) None
 
 -- The first word of a line: what stands before a space, once the spaces in front are passed over.
 abbrev pub first_word : List ℕ → Option (List ℕ)

@@ -1,19 +1,26 @@
 // A text of bytes cut into parts.
-ghost use Rattle.std.specs.Prelude.{◌≡◌};
+ghost use Rattle.std.specs.Prelude.{◌≡◌, length};
+ghost use Rattle.std.specs.Iterator.{at_most};
 ghost use Rattle.std.specs.Option.{option_map};
-ghost use Rattle.words.specs.Cuts.{before, behind, first_word, after_word};
+ghost use Rattle.words.specs.Cuts.{before, behind, parts, first_word, after_word};
 
-// The part before the first `mark`, and the part behind it.
+// The part before the first `mark` and the part behind it, or nothing where there is no mark.
+pub fn split_once(text: &[u8], mark: u8) -> Option<(&[u8], &[u8])>
+    ensures { option_map (λ p. (p.0.now, p.1.now)) result ≡ parts mark text.now }
+{
+    let at = text.iter().position(|byte| *byte == mark)?;
+    Some((&text[..at], &text[at + 1..]))
+}
+
+// The part before the first `mark`, and the part behind it: all of the text and nothing where there is no mark.
 pub fn cut(text: &[u8], mark: u8) -> (&[u8], &[u8])
     ensures front { result.0.now ≡ before mark text.now }
     ensures back { result.1.now ≡ behind mark text.now }
 {
-    for (at, byte) in text.iter().enumerate() {
-        if *byte == mark {
-            return (&text[0..at], &text[at + 1..]);
-        }
+    match split_once(text, mark) {
+        Some(parts) => parts,
+        None => (text, &[]),
     }
-    (text, &[])
 }
 
 // The words of a line: the longest runs without a space.
@@ -28,13 +35,19 @@ impl<'a> Words<'a> {
     {
         Words { rest: line }
     }
+}
+
+impl<'a> Iterator for Words<'a> {
+    type Item = &'a [u8];
+
+    ghost next_gives = { λ old result new. (option_map (λ x. x.now) result ≡ first_word old.rest.now) × (new.rest.now ≡ after_word old.rest.now) };
+
+    ghost remaining = { λ words. at_most (length words.rest.now) };
 
     // The next word, or nothing where only spaces are left.
-    pub fn next_word(&mut self) -> Option<&'a [u8]>
-        ensures value { option_map (λ x. x.now) result ≡ first_word self.old.rest.now }
-        ensures rest { self.new.rest.now ≡ after_word self.old.rest.now }
-    {
-        for _ in 0..self.rest.len() {
+    #[tactic(auto, using(crate::proofs::FirstWord::passing))]
+    fn next(&mut self) -> Option<&'a [u8]> {
+        while !self.rest.is_empty() {
             let (word, rest) = cut(self.rest, b' ');
             self.rest = rest;
             if !word.is_empty() {

@@ -4,5 +4,5 @@
 pub mod cuts;
 pub mod numbers;
 
-pub use cuts::{Words, cut};
+pub use cuts::{Words, cut, split_once};
 pub use numbers::number;

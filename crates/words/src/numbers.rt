@@ -5,7 +5,7 @@ ghost use Rattle.words.specs.Numbers.{with_digit, number};
 fn with_digit(value: u64, byte: u8) -> Option<u64>
     ensures { result ≡ with_digit value byte }
 {
-    if byte < b'0' || byte > b'9' {
+    if !matches!(byte, b'0'..=b'9') {
         return None;
     }
     value.checked_mul(10)?.checked_add(u64::from(byte - b'0'))

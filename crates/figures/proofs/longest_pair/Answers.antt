@@ -1,25 +1,28 @@
-use Rattle.std.proofs.Common.{◌≡◌, ◌+◌, max, map, get_or, drop, ap, arith}
-use Rattle.std.proofs.lemmas.List.{at_drop_more, drop_all}
+use Rattle.std.proofs.Common.{◌≡◌, ℕ, max, List, [], ◌∷◌, map, rules, refl, ◌∙◌, sym, ap, arith}
+use Rattle.std.specs.List.{reduce, fold}
+use Rattle.std.specs.Option.{unwrap_or, option_map}
+use Rattle.std.proofs.lemmas.Iterator.{YieldsList-from_slice, YieldsList-from_map}
+use Rattle.std.proofs.lemmas.Iterator.Consumers.{max_from_yields_List, YieldsList-at}
+use Rattle.std.proofs.lemmas.Iterator.Adapters.{option_map_id}
 use Rattle.layout.specs.Pairs.{pair_of}
 use Rattle.layout.specs.declared.pair.Pair.{Pair}
 use Rattle.rules.specs.Lots.{longest_of}
 use Rattle.figures.proofs.longest_pair.Goals as goal
-use Rattle.figures.proofs.longest_pair.Goals.{then-pair-most, else-pair-most}
 
-abbrev blank : Pair
-blank = record { offset = 0; length = 0 }
+abbrev long : Pair → ℕ
+long p = p.length
 
-pub loop-pair-preserved : goal.loop-pair-preserved
-loop-pair-preserved c =
-    let xs = c.args.pairs.now in
-    let i = c.loop-pair.pair-index in
-    let next : longest_of (map pair_of (drop i xs)) ≡ max (get_or xs i blank).length (longest_of (map pair_of (drop (i + 1) xs)))
-    = at_drop_more (λ ys. longest_of (map pair_of ys)) xs i blank c.loop-pair-test.true in
-    elim c.if-pair-most.branch [ then-pair-most w ↦ omega (arith, w.most-is, c.loop-pair.invariant) | else-pair-most w ↦ omega (arith, w.most-is, c.loop-pair.invariant) ]
+most : (n : ℕ) (xs : List Pair) → fold max n (map long xs) ≡ max n (longest_of (map pair_of xs))
+most n [] = omega arith
+most n (x ∷ xs) = most (max n x.length) xs ∙ omega arith
+
+longest : (xs : List Pair) → unwrap_or (reduce max (map long xs)) 0 ≡ longest_of (map pair_of xs)
+longest [] = refl
+longest (x ∷ xs) = most x.length xs
 
 pub returns : goal.returns
 returns c =
-    let xs = c.args.pairs.now in
-    let i = c.loop-pair.pair-index in
-    let e : longest_of (map pair_of (drop i xs)) ≡ 0 = ap (λ ys. longest_of (map pair_of ys)) (drop_all i xs c.loop-pair-test.false) in
-    omega (arith, c.loop-pair.invariant)
+    let best : option_map (λ (n : ℕ). n) c.max.result ≡ reduce max (map long c.args.pairs.now) =
+    max_from_yields_List c.map.result c.max.result c.max.ensures.ran
+    (YieldsList-from_map _ long (YieldsList-at c.map.ensures.source (YieldsList-from_slice c.args.pairs.now cc)) c.map.ensures.closure (λ x r q k. search rules)) in
+    c.unwrap_or.ensures ∙ ap (λ o. unwrap_or o 0) (sym (option_map_id c.max.result) ∙ best) ∙ longest c.args.pairs.now

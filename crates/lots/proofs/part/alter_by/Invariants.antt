@@ -1,10 +1,11 @@
 use Rattle.std.proofs.Common.{◌≡◌, ◌++◌, map, take, drop}
-use Rattle.lots.specs.Rows.{row_of, changed}
+use Rattle.inplace.specs.Held.{held}
+use Rattle.lots.specs.Rows.{changed}
 use Rattle.lots.proofs.part.alter_by.Given as goal
 
 -- The rows passed are changed, the others are as they were.
-abbrev pub invariant-loop-i : goal.invariant-loop-i
-invariant-loop-i g l =
-    let rows = map row_of l.initial.part in
+abbrev pub invariant-loop-row : goal.invariant-loop-row
+invariant-loop-row g l =
+    let rows = map held l.initial.rows in
     let change = changed l.column (g.V.Reading.reads l.value) (g.C.Reading.reads l.condition) in
-    map row_of l.part ≡ map change (take l.i rows) ++ drop l.i rows
+    map held l.rows ≡ map change (take l.row-index rows) ++ drop l.row-index rows

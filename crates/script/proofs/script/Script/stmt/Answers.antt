@@ -1,7 +1,7 @@
 use Rattle.std.proofs.Common.{◌≡◌, ℕ, ◌-◌, ◌<◌, ◌≤◌, true, length, get_or, IfSome, Some, None, Option, arith, MatchOption}
 use Rattle.inplace.specs.Held.{held}
 use Rattle.rules.specs.Scripts as rules
-use Rattle.script.specs.declared.node.Stmt.{Stmt}
+use Rattle.script.specs.declared.node.Node.{Node}
 use Rattle.script.specs.declared.script.Script.{Script}
 use Rattle.script.specs.Nodes.{block_at, code_of}
 use Rattle.script.specs.Ordered.{all_below, blocks_in}
@@ -15,11 +15,11 @@ returns-then-block-eq0 c =
     let s = c.args.self.now in
     record { meaning = rw c.if-block-eq0.true (empty_block (grown_exprs (held s.exprs)) (held s.stmts)); back = tt }
 
-record Found (s : Script) (block : ℕ) (o : Option Stmt) : Type 0 where
+record Found (s : Script) (block : ℕ) (o : Option Node) : Type 0 where
   meaning : MatchOption o (block_at (codes_of s) block ≡ rules.Code.stop) (λ n. block_at (codes_of s) block ≡ code_of (exprs_of s) (codes_of s) n)
   back : IfSome o (λ n. all_below block (blocks_in n) ≡ true)
 
-found : (s : Script) (block : ℕ) → 0 < block → (o : Option Stmt)
+found : (s : Script) (block : ℕ) → 0 < block → (o : Option Node)
     → MatchOption o (length (held s.stmts) ≤ block - 1) (λ x. (block - 1 < length (held s.stmts)) × (x ≡ get_or (held s.stmts) (block - 1) x))
     → Found s block o
 unfolding exprs_of codes_of

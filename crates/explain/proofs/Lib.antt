@@ -1,9 +1,0 @@
-pub mod Levels
-pub mod Tables
-pub mod Parts
-pub mod Cells
-pub mod Steps
-pub mod Said
-pub mod Breaches
-pub mod Indexes
-pub mod Faults

@@ -1,9 +1,0 @@
-// What is proved of explanations. Its contract is the theorem.
-ghost use Rattle.explain.specs.Breaking.{ExplainedFlowsAreFaults};
-
-// A flow that an explanation means breaks its rule: its statement is one at which the rules find a fault.
-pub fn explained_flows_are_faults() -> u8
-    ensures { ExplainedFlowsAreFaults }
-{
-    0
-}

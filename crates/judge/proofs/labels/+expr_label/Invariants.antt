@@ -1,4 +1,0 @@
-use Rattle.judge.proofs.labels.+expr_label.Given as goal
-
-abbrev pub decreases-expr_label : goal.decreases-expr_label
-decreases-expr_label g l = l.at

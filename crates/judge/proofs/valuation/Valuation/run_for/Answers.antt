@@ -1,7 +1,0 @@
-use Rattle.judge.specs.Names.{val_of}
-use Rattle.judge.proofs.Levels.{all_alike, same_valuation}
-use Rattle.judge.proofs.valuation.Valuation.run_for.Goals as goal
-
-pub returns : goal.returns
-unfolding val_of
-returns c = same_valuation _ _ _ (all_alike (λ v. v) 64 0)
