@@ -27,5 +27,8 @@ pub(crate) fn run_end<P: Fn(&u8) -> bool>(text: &[u8], from: usize, such: P) -> 
     requires callable { (f : _) (byte : _) → P.pre f byte }
     ensures { (holds : ℕ → Bool) → ((b : ℕ) (r : Bool) → FnReturnsAt P.Fn such b r → r ≡ holds b) → result ≡ from + prefix_len holds (drop from text.now) }
 {
-    from + text.iter().skip(from).copied().take_while(such).count()
+    if from >= text.len() {
+        return from;
+    }
+    from + text[from..].iter().copied().take_while(such).count()
 }
