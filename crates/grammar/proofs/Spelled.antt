@@ -1,7 +1,7 @@
 -- Keywords and marks are told apart by how they are written.
-use Rattle.std.proofs.Common.{◌≡◌, ℕ, ◌≤◌, Bool, true, false, ◌&&◌, ◌||◌, eqb, leb, List, [], ◌∷◌, length, Some, None, Option, refl, rules, arith}
+use Rattle.std.proofs.Common.{◌≡◌, ℕ, ◌≤◌, Bool, true, false, ◌&&◌, ◌||◌, eqb, leb, List, [], ◌∷◌, length, Some, None, Decides, Option, sym, refl, ap, ◌∙◌, rules, arith}
 use Rattle.std.proofs.lemmas.Grind.{common_steps}
-use Rattle.std.proofs.lemmas.Bool.Decides.{nat_tests}
+use Rattle.std.proofs.lemmas.Bool.Decides.{nat_tests, Decides-eqb, Decides-like}
 use Rattle.std.specs.List.{AllByRecursion}
 use Rattle.std.specs.Str.{bytes_eq}
 use Rattle.std.proofs.lemmas.Slice.Eq.{bytes_eq-Decides}
@@ -60,6 +60,19 @@ keyword_is_written word k e = (bytes_eq-Decides word (letters k)).0 (first_passe
 
 pub mark_is_written : (b : ℕ) (m : Mark) → mark_of b ≡ Some m → b ≡ byte m
 mark_is_written b m e = eqb-true b (byte m) (first_passes (λ n. eqb b (byte n)) marks m e)
+
+-- keywords that are written alike are the same, and so are marks
+pub keyword_tells : (k j : Keyword) → Decides (bytes_eq (letters k) (letters j)) (k ≡ j)
+keyword_tells k j =
+    Decides-like (bytes_eq (letters k) (letters j))
+    (λ e. let both : Some k ≡ Some j = sym (keyword_of_letters k) ∙ ap keyword_of e ∙ keyword_of_letters j in let same : k ≡ j = cc in same)
+    (ap letters) (bytes_eq-Decides (letters k) (letters j))
+
+pub mark_tells : (m n : Mark) → Decides (eqb (byte m) (byte n)) (m ≡ n)
+mark_tells m n =
+    Decides-like (eqb (byte m) (byte n))
+    (λ e. let both : Some m ≡ Some n = sym (mark_of_byte m) ∙ ap mark_of e ∙ mark_of_byte n in let same : m ≡ n = cc in same)
+    (ap byte) (Decides-eqb (byte m) (byte n))
 
 -- a word that is no keyword's
 pub keyword_of_none : (word : List ℕ) → ((k : Keyword) → word ≡ letters k → ⊥) → keyword_of word ≡ None
