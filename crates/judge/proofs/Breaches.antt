@@ -1,5 +1,5 @@
 -- A broken flow of a part of a block is one of the block.
-use Rattle.std.proofs.Common.{◌≡◌, ℕ, ◌<◌, sym, refl, subst, inl, inr}
+use Rattle.std.proofs.Common.{◌≡◌, ℕ, ◌<◌, Option, None, Some, sym, refl, subst, inl, inr}
 use Rattle.lattice.specs.Order.{Order}
 use Rattle.rules.specs.Plans.{Plan}
 use Rattle.rules.specs.Scripts as rules
@@ -8,6 +8,7 @@ use Rattle.rules.specs.Evaluation.{Valuation, whom, put_index, run_for}
 use Rattle.rules.specs.Labels.{Scope, no_names, enter, held, turn, cursor, mark_at}
 use Rattle.rules.specs.Flows.{if_context, each_context}
 use Rattle.judge.specs.declared.broken.Broken.{Broken}
+use Rattle.judge.specs.Verdicts.{Of}
 use Rattle.judge.specs.Breaking.{BreaksFirst, BreaksInside, BreaksBehind, Breaks, Explains}
 
 -- names, valuation and context in other terms
@@ -18,6 +19,11 @@ moved o plan code {s = s} {s' = s'} {v = v} {v' = v'} {l = l} {l' = l'} b p q r 
     let G : Valuation → Type 0 = λ z. Breaks o plan b code s z l' in
     let H : ℕ → Type 0 = λ z. Breaks o plan b code s v z in
     subst F p (subst G q (subst H r said))
+
+-- What follows of a flow is said of it where it is told.
+of_more : (told : Option Broken) (P Q : Broken → Type 0) → ((b : Broken) → P b → Q b) → Of told P → Of told Q
+of_more None P Q more said = said
+of_more (Some b) P Q more said = more b said
 
 module _ (o : Order) (plan : Plan) (scope : Scope) (val : Valuation) (label : ℕ) where
   abbrev At : rules.Code → Broken → Type 0
@@ -63,6 +69,15 @@ module _ (o : Order) (plan : Plan) (scope : Scope) (val : Valuation) (label : �
   behind b (add place t i es rest) said = inr said
   behind b (drop place t i condition rest) said = inr said
   behind b (alter place t i column value condition rest) said = inr said
+
+  pub own_told : (told : Option Broken) (code : rules.Code) → Of told (λ b. BreaksFirst o plan b scope val label code) → Of told (At code)
+  own_told told code said = of_more told (λ b. BreaksFirst o plan b scope val label code) (At code) (λ b s. own b code s) said
+
+  pub inside_told : (told : Option Broken) (code : rules.Code) → Of told (λ b. BreaksInside o plan b scope val label code) → Of told (At code)
+  inside_told told code said = of_more told (λ b. BreaksInside o plan b scope val label code) (At code) (λ b s. inside b code s) said
+
+  pub behind_told : (told : Option Broken) (code : rules.Code) → Of told (λ b. BreaksBehind o plan b scope val label code) → Of told (At code)
+  behind_told told code said = of_more told (λ b. BreaksBehind o plan b scope val label code) (At code) (λ b s. behind b code s) said
 
 module _ (o : Order) (plan : Plan) (b : Broken) where
   -- the vendor that is said is the one that the script runs for

@@ -2,7 +2,8 @@
 use Rattle.std.proofs.Common.{◌≡◌, ℕ, suc, ◌+◌, ◌<◌, ◌≤◌, Bool, true, false, cond, eqb, ltb, ◌⊎◌, List, [], ◌∷◌, ◌++◌, length, get_or, sym, refl, ap, ◌∙◌, inl, inr, arith, add-one, length-append}
 use mathlib.Core.Path.{fun_ext}
 use Rattle.std.proofs.lemmas.List.{append-nil, get_or_append_left, get_or_past}
-use Rattle.std.proofs.Math.Seq.{get_or-append_seam}
+use Rattle.std.proofs.Math.ListN.{set}
+use Rattle.std.proofs.Math.Seq.{get_or-append_seam, set-append_seam}
 use Rattle.std.proofs.lemmas.Bool.{eqb-true, eqb-false, cases_lt, lt-ltb, le-ltb, cond-true, cond-false}
 use Rattle.inplace.specs.Held.{held}
 use Rattle.rules.specs.Lots.{upd}
@@ -77,6 +78,13 @@ entered_scope r s x e = ap scope_over e ∙ scope_more (held s.names) x
 pub entered_val : (r s : Standing) (x : Name) → r.mine ≡ s.mine → held r.names ≡ held s.names ++ x ∷ [] → val_of r ≡ with_name (val_of s) (scope_of s).depth x
 unfolding val_of scope_of
 entered_val r s x same e = (λ i. val_over (same i) (e i)) ∙ val_more s.mine (held s.names) x
+
+-- another name in the place of the newest
+pub turned : (xs ys : List Name) (was is : Name) → ys ≡ xs ++ was ∷ [] → set ys (length xs) is ≡ xs ++ is ∷ []
+turned xs ys was is e = ap (λ zs. set zs (length xs) is) e ∙ set-append_seam xs was [] is
+
+pub turned_val : (r s : Standing) (v : ℕ) → r.mine ≡ s.mine → held r.names ≡ held s.names ++ Turn v ∷ [] → val_of r ≡ evaluation.put_index (val_of s) (scope_of s).depth v
+turned_val r s v same e = entered_val r s (Turn v) same e
 
 -- The vendors of the indexes below a level.
 module _ (s : Standing) where

@@ -1,5 +1,5 @@
 -- What a name and a standing of the code stand for.
-use Rattle.std.specs.Prelude.{ℕ, length, slice_index_or}
+use Rattle.std.specs.Prelude.{◌≡◌, ℕ, [], ◌∷◌, ◌++◌, length, slice_index_or}
 use Rattle.inplace.specs.Held.{held}
 use Rattle.layout.specs.declared.lot_id.LotId.{LotId}
 use Rattle.rules.specs.Scripts.Mark.{opened, tag_of}
@@ -27,6 +27,12 @@ turn_vendor (Cursor lot) = 0
 -- How many names are in scope.
 abbrev pub depth_of : Standing → ℕ
 depth_of s = length (held s.names)
+
+-- A standing inside another: it has one name more.
+pub record Inside (inner outer : Standing) : Type 0 where
+  pub mine : inner.mine ≡ outer.mine
+  pub newest : Name
+  pub names : held inner.names ≡ held outer.names ++ newest ∷ []
 
 unfoldable pub scope_of : Standing → rules.Scope
 scope_of s = record { depth = length (held s.names); names = λ level. name_of (slice_index_or (held s.names) level Unknown) }

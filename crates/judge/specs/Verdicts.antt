@@ -22,6 +22,15 @@ place_in (Some broken) = Some broken.place
 abbrev pub found : Result (Unit {0}) Broken → Option ℕ
 found r = place_in (told r)
 
+-- The same of any report of a fault, from which its place is read, and the whole of it, where that is told.
+abbrev pub told_by : {R : Type 0} → (R → Option Broken) → Result (Unit {0}) R → Option Broken
+told_by whole (Ok done) = None
+told_by whole (Err report) = whole report
+
+abbrev pub found_by : {R : Type 0} → (R → ℕ) → Result (Unit {0}) R → Option ℕ
+found_by place (Ok done) = None
+found_by place (Err report) = Some (place report)
+
 -- What holds of a fault, where there is one.
 abbrev pub Of : Option Broken → (Broken → Type 0) → Type 0
 Of None P = Unit {0}

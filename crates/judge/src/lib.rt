@@ -8,6 +8,7 @@ pub mod judging;
 pub mod labels;
 pub mod name;
 pub mod promises;
+pub mod report;
 pub mod standing;
 pub mod whole;
 

@@ -1,10 +1,10 @@
 // Where a statement stands: what is made, changed and looked up of the names in scope.
 ghost use Rattle.std.specs.Prelude.{◌≡◌, ◌+◌, ◌<◌};
 ghost use Rattle.inplace.specs.Held.{held};
-ghost use Rattle.rules.specs.Labels.{no_names, enter, name_at, held as variable, mark_at};
-ghost use Rattle.rules.specs.Evaluation.{run_for, whom};
+ghost use Rattle.rules.specs.Labels.{no_names, enter, name_at, held as variable, turn, mark_at};
+ghost use Rattle.rules.specs.Evaluation.{run_for, put_index, whom};
 ghost use Rattle.script.specs.Nodes.{index_of, mark_of};
-ghost use Rattle.judge.specs.Names.{name_of, turn_vendor, depth_of, scope_of, val_of, with_name, lot_of};
+ghost use Rattle.judge.specs.Names.{name_of, turn_vendor, depth_of, Inside, scope_of, val_of, with_name, lot_of};
 ghost use Rattle.judge.specs.Breaking.{indexes_below};
 
 use crate::name::Name;
@@ -41,10 +41,23 @@ impl Standing {
         ensures scope { scope_of result ≡ enter (scope_of self.now) (name_of name) }
         ensures val { val_of result ≡ with_name (val_of self.now) (scope_of self.now).depth name }
         ensures depth { depth_of result ≡ depth_of self.now + 1 }
+        ensures inside { Inside result self.now }
     {
         let mut inner = *self;
         let _ = inner.names.push(name);
         inner
+    }
+
+    // Inside another: the newest name is the index of a turn, in place of what it was. A turn so costs no standing of its own.
+    #[tactic(auto, using(crate::proofs::Levels::entered_scope, crate::proofs::Levels::turned_val, crate::proofs::Levels::turned))]
+    pub(crate) fn turn_to(&mut self, outer: &Standing, vendor: u32)
+        requires { Inside self.now outer.now }
+        ensures scope { scope_of self.new ≡ enter (scope_of outer.now) turn }
+        ensures val { val_of self.new ≡ put_index (val_of outer.now) (scope_of outer.now).depth vendor }
+        ensures depth { depth_of self.new ≡ depth_of outer.now + 1 }
+        ensures inside { Inside self.new outer.now }
+    {
+        self.names.set(outer.names.len(), Name::Turn(vendor));
     }
 
     // What the name at a level is.

@@ -6,12 +6,13 @@ ghost use Rattle.rules.specs.Labels.{no_names};
 ghost use Rattle.rules.specs.Evaluation.{run_for};
 ghost use Rattle.rules.specs.Judging as rules;
 ghost use Rattle.script.specs.Meaning.{script_of};
-ghost use Rattle.judge.specs.Verdicts.{told, place_in, found, Of};
+ghost use Rattle.judge.specs.Verdicts.{told, told_by, place_in, found, found_by, Of};
 ghost use Rattle.judge.specs.Breaking.{Breaks, Explains};
 
 use crate::broken::Broken;
 use crate::context::Context;
 use crate::judging::{Judge, least_of};
+use crate::report::Report;
 use crate::standing::Standing;
 use lattice::Lattice;
 use layout::Plan;
@@ -19,7 +20,6 @@ use policy::Policy;
 use script::{MOST_STATEMENTS, Script};
 
 // The first fault of a script at the valuations of one vendor that it may run for, in a context, which is left as it was.
-#[tactic(auto, using(crate::proofs::Steps::at_end, crate::proofs::Steps::no_block))]
 pub fn judge_for<L: Lattice>(
     lattice: &L,
     plan: &Plan,
@@ -31,6 +31,22 @@ pub fn judge_for<L: Lattice>(
     ensures same { context.new.label ≡ context.old.label }
     ensures why { Of (told result) (λ b. Breaks (L.answers lattice.now) (plan_of plan.now) b (script_of script.now) no_names (run_for vendor) context.old.label) }
 {
+    judge_vendor(lattice, plan, script, vendor, context)
+}
+
+// The same, told as the caller likes.
+#[tactic(auto, using(crate::proofs::Steps::at_end, crate::proofs::Steps::no_block))]
+fn judge_vendor<L: Lattice, R: Report>(
+    lattice: &L,
+    plan: &Plan,
+    script: &Script,
+    vendor: u32,
+    context: &mut Context,
+) -> Result<(), R>
+    ensures answer { found_by R.place_of result ≡ rules.verdict (L.answers lattice.now) (plan_of plan.now) (script_of script.now) no_names (run_for vendor) context.old.label }
+    ensures same { context.new.label ≡ context.old.label }
+    ensures why { Of (told_by R.whole result) (λ b. Breaks (L.answers lattice.now) (plan_of plan.now) b (script_of script.now) no_names (run_for vendor) context.old.label) }
+{
     let first = script.first();
     if first > MOST_STATEMENTS {
         return Ok(());
@@ -39,12 +55,11 @@ pub fn judge_for<L: Lattice>(
     Judge { policy, script }.judge_block(first, &Standing::run_for(vendor), context)
 }
 
-// Why a script is refused: the flow with the least place over every vendor that it may run for, with the context at the
-// bottom, and a valuation at which that flow is not allowed.
+// The fault with the least place over every vendor that the script may run for, with the context at the bottom.
 #[tactic(auto, using(crate::proofs::Breaches::explained_for, rules::proofs::Turns::over_more), unfolding(rules::specs::Judging::judge))]
-pub fn explain<L: Lattice>(lattice: &L, plan: &Plan, script: &Script) -> Option<Broken>
-    ensures answer { place_in result ≡ rules.judge (L.answers lattice.now) (plan_of plan.now) (script_of script.now) }
-    ensures why { Of result (Explains (L.answers lattice.now) (plan_of plan.now) (script_of script.now)) }
+fn judge_all<L: Lattice, R: Report>(lattice: &L, plan: &Plan, script: &Script) -> Result<(), R>
+    ensures answer { found_by R.place_of result ≡ rules.judge (L.answers lattice.now) (plan_of plan.now) (script_of script.now) }
+    ensures why { Of (told_by R.whole result) (Explains (L.answers lattice.now) (plan_of plan.now) (script_of script.now)) }
 {
     let vendors = plan.vendors();
     let mut context = Context {
@@ -52,14 +67,23 @@ pub fn explain<L: Lattice>(lattice: &L, plan: &Plan, script: &Script) -> Option<
     };
     let mut least = Ok(());
     for me in 0..vendors {
-        least = least_of(least, judge_for(lattice, plan, script, me, &mut context));
+        least = least_of(least, judge_vendor(lattice, plan, script, me, &mut context));
     }
-    least.err()
+    least
+}
+
+// Why a script is refused: the flow with the least place over every vendor that it may run for, with the context at the
+// bottom, and a valuation at which that flow is not allowed.
+pub fn explain<L: Lattice>(lattice: &L, plan: &Plan, script: &Script) -> Option<Broken>
+    ensures answer { place_in result ≡ rules.judge (L.answers lattice.now) (plan_of plan.now) (script_of script.now) }
+    ensures why { Of result (Explains (L.answers lattice.now) (plan_of plan.now) (script_of script.now)) }
+{
+    judge_all::<L, Broken>(lattice, plan, script).err()
 }
 
 // The verdict on a script: the place of the flow that it is refused for, or nothing.
 pub fn judge<L: Lattice>(lattice: &L, plan: &Plan, script: &Script) -> Option<usize>
     ensures { result ≡ rules.judge (L.answers lattice.now) (plan_of plan.now) (script_of script.now) }
 {
-    explain(lattice, plan, script).map(|broken| broken.place)
+    judge_all::<L, usize>(lattice, plan, script).err()
 }
