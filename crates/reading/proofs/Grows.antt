@@ -1,5 +1,6 @@
 -- What reading leaves of a script's nodes.
-use Rattle.std.proofs.Common.{◌≡◌, ◌<◌, List, [], ◌∷◌, length, sym, refl, ap, arith}
+use Rattle.std.proofs.Common.{◌≡◌, ◌+◌, ◌<◌, List, [], ◌∷◌, ◌++◌, length, get_or, sym, refl, ap, ◌∙◌, arith, length-append}
+use Rattle.std.proofs.lemmas.List.{get_or_push}
 use Rattle.rules.specs.Scripts as rules
 use Rattle.inplace.specs.Held.{held}
 use Rattle.grammar.specs.declared.counts.Counts.{Counts}
@@ -9,6 +10,12 @@ use Rattle.script.specs.Nodes.{code_of, block_at}
 use Rattle.script.specs.Meaning.{grown_exprs, codes_of}
 use Rattle.script.proofs.Grown.{grow_length, grow_front}
 use Rattle.reading.specs.Terms.{Kept, Stay, Larger}
+
+pub more_length : {A : Type 0} (es is : List A) (x : A) → is ≡ es ++ x ∷ [] → length is ≡ length es + 1
+more_length es is x e = ap length e ∙ length-append es (x ∷ [])
+
+pub newest : {A : Type 0} (none : A) (es is : List A) (x : A) → is ≡ es ++ x ∷ [] → get_or is (length es) none ≡ x
+newest none es is x e = ap (λ l. get_or l (length es) none) e ∙ get_or_push es x none (length es) refl
 
 pub stay_self : {A : Type 0} (none : A) (es : List A) → Stay none es es
 stay_self none es = record { longer = omega arith; same = λ k h. refl }
